@@ -1,0 +1,15 @@
+-- The order of rows and the test of one row, which are this project's own.
+use Rattle.std.specs.Prelude.{Bool}
+use Rattle.std.specs.declared.cmp.Ordering.{Ordering}
+use Rattle.std.specs.Ordering.{nat_cmp, ordering_then, is_eq}
+use Rattle.std.specs.Cmp.Lexicographic.{slice_cmp}
+use Rattle.cs_types.specs.Order.{cells_cmp}
+use Rattle.cs_types.specs.declared.change.RowName.{RowName}
+
+-- by table, and then by key
+abbrev pub row_cmp : RowName → RowName → Ordering
+row_cmp a b = ordering_then (slice_cmp nat_cmp a.table b.table) (cells_cmp a.key b.key)
+
+-- whether two names are of the same row; `RowName::is` says that this is equality
+abbrev pub same_row : RowName → RowName → Bool
+same_row a b = is_eq (row_cmp a b)
