@@ -1,9 +1,8 @@
-ghost use Rattle.std.specs.Prelude.{◌≡◌, ◌≤◌, ◌+◌, ◌↔◌, length, Some, IfOk, IsErr, OnOk, OnErr, IsTrue, false, true, MatchResult, vec_capacity};
-ghost use Rattle.std.specs.Io.KnownBytes.{Keeps};
+ghost use Rattle.std.specs.Prelude.{◌≡◌, ◌≤◌, ◌+◌, ◌↔◌, length, Some, IfOk, IsErr, OnOk, OnErr, IsTrue, MatchResult, false, true, vec_capacity};
 ghost use Rattle.cs_device.specs.Causes.{HasCause};
-ghost use Rattle.cs_device.specs.Calls.{no_calls, IsLater, passed, faulted};
+ghost use Rattle.cs_device.specs.Calls.{no_calls};
 ghost use Rattle.cs_device.specs.Disk.{ReadsAt, WritesAt, TearsAt, CutsTo, overwrite};
-ghost use Rattle.cs_device.specs.Memory.{IsSameDisk, DiskFails, DiskWriteFails, with_calls, after_write, after_cut};
+ghost use Rattle.cs_device.specs.Memory.{IsSameDisk, DiskFails, DiskWriteFails, after_call, after_fault, after_write, after_cut};
 
 use crate::calls::CallCounter;
 use crate::{Disk, Failed};
@@ -86,7 +85,7 @@ impl MemDisk {
 
     /// Counts a call, which fails or not.
     fn count(&mut self, fails: bool) -> Result<(), Failed>
-        ensures answer { MatchResult result (λ _. (fails ≡ false) × (self.new ≡ with_calls (passed self.old.calls) self.old)) (λ _. (fails ≡ true) × (self.new ≡ with_calls (faulted self.old.calls) self.old)) }
+        ensures after { MatchResult result (λ _. (fails ≡ false) × (self.new ≡ after_call self.old)) (λ _. (fails ≡ true) × (self.new ≡ after_fault self.old)) }
         ensures object { IsSameDisk self.old self.new }
         ensures cause { HasCause self.old.calls.faults self.new.calls.faults result }
     {
@@ -124,7 +123,7 @@ impl Disk for MemDisk {
         ensures object { IsSameDisk self.old self.new }
         ensures cause { HasCause self.old.calls.faults self.new.calls.faults result }
         ensures fails { IsErr result ↔ DiskFails self.old }
-        ensures after { MatchResult result (λ _. self.new ≡ with_calls (passed self.old.calls) self.old) (λ _. self.new ≡ with_calls (faulted self.old.calls) self.old) }
+        ensures after { MatchResult result (λ _. self.new ≡ after_call self.old) (λ _. self.new ≡ after_fault self.old) }
     {
         let fails = self.fails_call();
         self.count(fails)?;
@@ -139,7 +138,7 @@ impl Disk for MemDisk {
         ensures object { IsSameDisk self.old self.new }
         ensures cause { HasCause self.old.calls.faults self.new.calls.faults result }
         ensures fails { IsErr result ↔ DiskFails self.old }
-        ensures after { MatchResult result (λ _. self.new ≡ with_calls (passed self.old.calls) self.old) (λ _. self.new ≡ with_calls (faulted self.old.calls) self.old) }
+        ensures after { MatchResult result (λ _. self.new ≡ after_call self.old) (λ _. self.new ≡ after_fault self.old) }
     {
         let fails = self.fails_call();
         self.count(fails)?;
@@ -156,7 +155,7 @@ impl Disk for MemDisk {
         ensures object { IsSameDisk self.old self.new }
         ensures cause { HasCause self.old.calls.faults self.new.calls.faults result }
         ensures fails { IsErr result ↔ DiskWriteFails self.old (length bytes.now) }
-        ensures after { MatchResult result (λ _. self.new ≡ after_write at bytes.now self.old) (λ _. self.new ≡ with_calls (faulted self.old.calls) self.old) }
+        ensures after { MatchResult result (λ _. self.new ≡ after_write at bytes.now self.old) (λ _. self.new ≡ after_fault self.old) }
     {
         let fails = self.fails_write(bytes);
         self.count(fails)?;
@@ -173,7 +172,7 @@ impl Disk for MemDisk {
         ensures object { IsSameDisk self.old self.new }
         ensures cause { HasCause self.old.calls.faults self.new.calls.faults result }
         ensures fails { IsErr result ↔ DiskFails self.old }
-        ensures after { MatchResult result (λ _. self.new ≡ after_cut to self.old) (λ _. self.new ≡ with_calls (faulted self.old.calls) self.old) }
+        ensures after { MatchResult result (λ _. self.new ≡ after_cut to self.old) (λ _. self.new ≡ after_fault self.old) }
     {
         let fails = self.fails_call();
         self.count(fails)?;
@@ -187,7 +186,7 @@ impl Disk for MemDisk {
         ensures object { IsSameDisk self.old self.new }
         ensures cause { HasCause self.old.calls.faults self.new.calls.faults result }
         ensures fails { IsErr result ↔ DiskFails self.old }
-        ensures after { MatchResult result (λ _. self.new ≡ with_calls (passed self.old.calls) self.old) (λ _. self.new ≡ with_calls (faulted self.old.calls) self.old) }
+        ensures after { MatchResult result (λ _. self.new ≡ after_call self.old) (λ _. self.new ≡ after_fault self.old) }
     {
         let fails = self.fails_call();
         self.count(fails)

@@ -2,7 +2,7 @@ ghost use Rattle.std.specs.Prelude.{◌≡◌, ◌≤◌, ◌↔◌, length, dro
 ghost use Rattle.std.specs.Io.{ReadsAtMost};
 ghost use Rattle.std.specs.Io.KnownBytes.{ReadConsumes};
 ghost use Rattle.cs_device.specs.Causes.{HasCause};
-ghost use Rattle.cs_device.specs.Calls.{no_calls, IsListed, IsLater, passed, faulted};
+ghost use Rattle.cs_device.specs.Calls.{no_calls, IsListed, passed, faulted};
 ghost use Rattle.cs_device.specs.Memory.{IsSameSource};
 
 use crate::calls::CallCounter;
@@ -73,8 +73,8 @@ impl Source for MemSource {
         ensures cause { HasCause self.old.calls.faults self.new.calls.faults result }
         ensures fails { IsErr result ↔ IsListed self.old.calls }
         ensures count { IfOk result (λ n. n ≡ min (length self.old.left) (length into.new)) }
-        ensures rest { IfOk result (λ n. self.new.left ≡ drop n self.old.left) }
-        ensures calls { MatchResult result (λ _. self.new.calls ≡ passed self.old.calls) (λ _. self.new.calls ≡ faulted self.old.calls) }
+        ensures after { MatchResult result (λ n. self.new ≡ record { left = drop n self.old.left; calls = passed self.old.calls })
+            (λ _. self.new ≡ record { left = self.old.left; calls = faulted self.old.calls }) }
     {
         let fails = self.calls.is_listed();
         self.calls.count(fails)?;
