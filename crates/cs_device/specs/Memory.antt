@@ -1,7 +1,7 @@
 -- What contracts see of the objects in memory, and what a call makes of them. This project's own.
 use Rattle.std.specs.Prelude.{◌≡◌, ◌+◌, ◌≤◌, ◌<◌, ◌⊎◌, ℕ, List, length, take, refl}
 use Rattle.std.specs.Coded.{Coded, code_by, coded×, coded_ℕ, coded_list}
-use Rattle.cs_device.specs.Calls.{Calls, calls_code, IsListed, IsLater, passed}
+use Rattle.cs_device.specs.Calls.{Calls, calls_code, IsListed, IsLater, passed, faulted}
 use Rattle.cs_device.specs.Disk.{overwrite}
 
 -- a source in memory: the bytes that are left, and its calls
@@ -61,8 +61,12 @@ abbrev pub DiskWriteFails : DiskState → ℕ → Type 0
 DiskWriteFails d count = DiskFails d ⊎ (d.room < d.written + count)
 
 -- the disk after a call that left its bytes as they were
-abbrev pub with_calls : Calls → DiskState → DiskState
-with_calls calls d = record { seen = d.seen; written = d.written; room = d.room; allowed = d.allowed; calls = calls }
+abbrev pub after_call : DiskState → DiskState
+after_call d = record { seen = d.seen; written = d.written; room = d.room; allowed = d.allowed; calls = passed d.calls }
+
+-- the disk after a call that failed: its bytes are as they were
+abbrev pub after_fault : DiskState → DiskState
+after_fault d = record { seen = d.seen; written = d.written; room = d.room; allowed = d.allowed; calls = faulted d.calls }
 
 -- the disk after a write at this place
 abbrev pub after_write : ℕ → List ℕ → DiskState → DiskState
