@@ -40,6 +40,7 @@ fault_place ws k within before differs = record {
   where
     there : k < length ws → (rest : List (List ℕ)) (command : Command) → IsCommand (take (k + 1) ws ++ rest) command → ⊥
     there lt rest (Replay script journal output stream start end) is = differs _ script journal output stream start end is (λ i le. subst (λ n. slice_get ws i ≡ slice_get (take n ws ++ rest) i) (sym (add-one k)) (at_front ws rest i k le lt))
+
     whole : (command : Command) → IsCommand ws command → ⊥
     whole (Replay script journal output stream start end) is = differs ws script journal output stream start end is (λ i le. refl)
 
