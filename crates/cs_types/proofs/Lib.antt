@@ -1,1 +1,4 @@
+pub mod Calendar
+pub mod DateTexts
+pub mod Patterns
 pub mod SameRow
