@@ -1,8 +1,8 @@
 -- The written text of a date spells it.
-use Rattle.std.proofs.Common.{◌≡◌, ℕ, suc, ◌+◌, ◌-◌, ◌*◌, ◌/◌, ◌%◌, ◌<◌, ◌≤◌, List, [], ◌∷◌, ◌++◌, length, codes, refl, sym, ap, subst, ◌∙◌, arith, ℤ, pos}
+use Rattle.std.proofs.Common.{◌≡◌, ℕ, ◌/◌, ◌%◌, ◌<◌, List, [], ◌++◌, codes, refl, ◌∙◌, arith, ℤ, pos}
 use Rattle.jiff_core.specs.Calendar.{days_from_civil}
 use Rattle.jiff_core.proofs.CalendarLemmas.{days_in_month_bounds}
-use Rattle.cs_types.specs.Shape.{Fits, two_digits, four_digits}
+use Rattle.cs_types.specs.Shape.{two_digits, four_digits}
 use Rattle.cs_types.specs.Civil.{IsCivil, IsDay, IsDateShape, HasCivilDate, SpellsDate, year_field, month_field, day_field, date_field, date_text, year_of, month_of, day_of}
 use Rattle.cs_types.proofs.Patterns.{digit_fits}
 use Rattle.cs_types.proofs.Calendar.{found}

@@ -1,11 +1,11 @@
 -- The written text of a moment spells it.
-use Rattle.std.proofs.Common.{◌≡◌, ℕ, zero, suc, ◌+◌, ◌-◌, ◌*◌, ◌/◌, ◌%◌, ◌<◌, ◌≤◌, List, [], ◌∷◌, ◌++◌, length, drop, codes, Bool, true, false, eqb, append_assoc, refl, sym, ap, subst, ◌∙◌, arith, ℤ, pos, ◌+ℤ◌, ◌*ℤ◌, ◌≤ℤ◌, ◌<ℤ◌}
+use Rattle.std.proofs.Common.{◌≡◌, ℕ, ◌+◌, ◌*◌, ◌/◌, ◌%◌, ◌<◌, ◌≤◌, List, [], ◌∷◌, ◌++◌, codes, true, false, eqb, refl, sym, ap, subst, ◌∙◌, arith, ℤ, pos, ◌+ℤ◌, ◌*ℤ◌}
 use Rattle.std.proofs.lemmas.Bool.Decides.{nat_tests}
 use Rattle.jiff_core.specs.Calendar.{days_from_civil}
 use Rattle.jiff_core.proofs.SignedLemmas.{signed_arith}
-use Rattle.cs_types.specs.Shape.{Fits, two_digits, two_at}
-use Rattle.cs_types.specs.Civil.{IsCivil, IsDay, HasCivilDate, date_field, date_text, year_of, month_of, day_of}
-use Rattle.cs_types.specs.Moment.{IsMoment, IsMomentShape, HasClock, HasCivilMoment, SpellsBetween, SpellsMoment, fraction_pattern, hour_field, minute_field, second_field, clock_field, nanosecond_field, moment_field, tenths, microsecond_of, day_number, fraction_text, clock_text, moment_text}
+use Rattle.cs_types.specs.Shape.{Fits, two_digits}
+use Rattle.cs_types.specs.Civil.{IsCivil, IsDay, date_field, date_text, year_of, month_of, day_of}
+use Rattle.cs_types.specs.Moment.{IsMoment, IsMomentShape, HasCivilMoment, SpellsMoment, fraction_pattern, hour_field, minute_field, second_field, clock_field, nanosecond_field, moment_field, tenths, microsecond_of, day_number, fraction_text, clock_text, moment_text}
 use Rattle.cs_types.specs.Stamp.{IsStamp, Spells, stamp_text}
 use Rattle.cs_types.proofs.Patterns.{digit_fits, by_test}
 use Rattle.cs_types.proofs.Calendar.{found}

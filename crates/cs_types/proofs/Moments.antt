@@ -1,12 +1,12 @@
 -- When a text's moment is between limits, from its whole microseconds and the nanoseconds above them.
-use Rattle.std.proofs.Common.{◌≡◌, ℕ, zero, suc, ◌+◌, ◌-◌, ◌*◌, ◌/◌, ◌%◌, ◌<◌, ◌≤◌, List, [], ◌∷◌, ◌++◌, length, drop, codes, replicate, length-append, ◌⊎◌, inl, inr, refl, sym, ap, subst, ◌∙◌, arith, ℤ, pos, ◌+ℤ◌, ◌*ℤ◌, ◌≤ℤ◌, ◌<ℤ◌, Result, Ok, Err, MatchResult}
+use Rattle.std.proofs.Common.{◌≡◌, ℕ, zero, suc, ◌≤◌, List, ◌++◌, length, drop, codes, length-append, inl, inr, sym, ap, subst, arith, ℤ, Result, Ok, Err, MatchResult}
 use Rattle.std.proofs.lemmas.Bool.{cases_order}
 use Rattle.std.proofs.lemmas.List.{take-append-drop}
 use Rattle.jiff_core.proofs.SignedLemmas.{signed_arith}
 use Rattle.cs_types.specs.declared.moment.StampFault.{StampFault}
 use Rattle.cs_types.specs.declared.moment.StampFault.TheVariants.{Shape, Range, TooFine}
-use Rattle.cs_types.specs.Shape.{Fits, IsFaultPlace}
-use Rattle.cs_types.specs.Moment.{IsMomentShape, HasCivilMoment, IsBetweenMoments, IsFaultBetween, SpellsBetween, moment_field, fraction_pattern}
+use Rattle.cs_types.specs.Shape.{IsFaultPlace}
+use Rattle.cs_types.specs.Moment.{IsMomentShape, IsFaultBetween, SpellsBetween, fraction_pattern}
 use Rattle.cs_types.proofs.Patterns.{length_of_fit}
 
 pub long_shape : (text : List ℕ) → IsMomentShape text → 20 ≤ length text

@@ -1,6 +1,6 @@
 -- Texts that fit a pattern, and what the walk along a pattern finds.
-use Rattle.std.proofs.Common.{◌≡◌, ℕ, zero, suc, ◌+◌, ◌-◌, ◌*◌, ◌/◌, ◌%◌, ◌<◌, ◌≤◌, List, [], ◌∷◌, ◌++◌, length, take, drop, get_or, Bool, true, false, cond, nat_le, ◌&&◌, Option, Some, None, refl, sym, ap, ◌∙◌, arith, rules}
-use Rattle.cs_types.specs.Shape.{allows, Fits, unfit, digit_at, two_at, two_digits, four_digits}
+use Rattle.std.proofs.Common.{◌≡◌, ℕ, ◌+◌, ◌<◌, ◌≤◌, List, [], ◌∷◌, length, Bool, true, false, Some, None, refl, sym, ◌∙◌, arith}
+use Rattle.cs_types.specs.Shape.{allows, Fits, unfit}
 
 -- a digit is one that `d` allows
 pub digit_fits : (n : ℕ) → n < 10 → allows 100 (48 + n) ≡ true

@@ -1,5 +1,5 @@
 -- Dates of the calendar that ISO 8601 gives, in the years 1 to 9999, as days since 1970-01-01 and as texts YYYY-MM-DD (GoogleSQL's DATE).
-use Rattle.std.specs.Prelude.{◌≡◌, ℕ, zero, suc, ◌+◌, ◌*◌, ◌≤◌, List, ◌++◌, codes, ℤ, pos, ◌-ℤ◌, ◌<ℤ◌, ◌≤ℤ◌, int_lt, unsigned_abs, if◌then◌else◌}
+use Rattle.std.specs.Prelude.{◌≡◌, ℕ, zero, suc, ◌+◌, ◌*◌, ◌≤◌, List, ◌++◌, codes, ℤ, pos, ◌-ℤ◌, ◌≤ℤ◌, int_lt, unsigned_abs, if◌then◌else◌}
 use Rattle.jiff_core.specs.Calendar.{days_from_civil, days_in_month}
 use Rattle.cs_types.specs.declared.civil.DateFault.{DateFault}
 use Rattle.cs_types.specs.declared.civil.DateFault.TheVariants.{Shape, Range}

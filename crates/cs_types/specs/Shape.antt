@@ -1,5 +1,5 @@
 -- Texts of a fixed shape, told by patterns, and the place where a text leaves its shape; this project's own.
-use Rattle.std.specs.Prelude.{◌≡◌, ℕ, zero, suc, ◌+◌, ◌*◌, ◌-◌, ◌/◌, ◌%◌, ◌<◌, ◌≤◌, List, [], ◌∷◌, ◌++◌, length, take, slice_index, Bool, ◌&&◌, ◌==◌, nat_le, nat_lt, IsTrue, if◌then◌else◌, Option, Some, None, ⊤}
+use Rattle.std.specs.Prelude.{◌≡◌, ℕ, suc, ◌+◌, ◌*◌, ◌-◌, ◌/◌, ◌%◌, ◌<◌, ◌≤◌, List, [], ◌∷◌, ◌++◌, length, take, slice_index, Bool, ◌&&◌, ◌==◌, nat_le, IsTrue, if◌then◌else◌, Option, Some, None, ⊤}
 
 -- what a byte of a pattern allows: `d` any digit, and each other byte itself
 abbrev pub allows : ℕ → ℕ → Bool

@@ -1,7 +1,7 @@
-use Rattle.std.proofs.Common.{◌≡◌, ◌≤ℤ◌, ℤ, to_z, of_z, to_z-of_z, arith, w32, FitsSigned, pos, subst, sym, ◌∙◌}
+use Rattle.std.proofs.Common.{◌≤ℤ◌, to_z-of_z, arith, w32, FitsSigned, pos}
 use Rattle.jiff_core.proofs.SignedLemmas.{signed_arith, signed_casts}
 use Rattle.jiff_core.specs.Calendar.{days_from_civil}
-use Rattle.cs_types.specs.Civil.{IsCivil, IsDay}
+use Rattle.cs_types.specs.Civil.{IsDay}
 use Rattle.cs_types.proofs.Calendar.{from_calendar}
 use Rattle.cs_types.proofs.civil.civil_day.Goals as goal
 

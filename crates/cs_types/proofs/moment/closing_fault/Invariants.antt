@@ -1,4 +1,4 @@
-use Rattle.std.proofs.Common.{◌≡◌, ◌-◌, ◌≤◌, drop}
+use Rattle.std.proofs.Common.{◌≡◌, ◌-◌, drop}
 use Rattle.cs_types.specs.Moment.{closing}
 use Rattle.cs_types.proofs.moment.closing_fault.Given as goal
 

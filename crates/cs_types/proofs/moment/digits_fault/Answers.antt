@@ -1,6 +1,4 @@
-use Rattle.std.proofs.Common.{◌≡◌, ◌<◌, ◌≤◌, ◌-◌, ◌+◌, ℕ, suc, length, get_or, drop, true, false, sym, ap, ◌∙◌, arith}
-use Rattle.cs_types.specs.Shape.{allows}
-use Rattle.cs_types.specs.Moment.{closing, zulu}
+use Rattle.std.proofs.Common.{sym, ◌∙◌}
 use Rattle.cs_types.proofs.Walk.{digits_early, digits_other, digits_more}
 use Rattle.cs_types.proofs.moment.digits_fault.Goals as goal
 

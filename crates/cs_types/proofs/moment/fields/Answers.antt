@@ -1,7 +1,7 @@
-use Rattle.std.proofs.Common.{◌≡◌, ◌<◌, ◌≤◌, ◌-◌, ◌+◌, ◌*◌, ◌/◌, ◌%◌, List, ℕ, ℤ, pos, ◌*ℤ◌, ◌+ℤ◌, to_z, of_z, to_z-of_z, FitsSigned, w32, w64, sym, ap, ◌∙◌, arith}
+use Rattle.std.proofs.Common.{◌≡◌, ◌<◌, ◌+◌, ◌*◌, ◌%◌, List, ℕ, ℤ, pos, ◌*ℤ◌, ◌+ℤ◌, to_z, of_z, w32, w64, arith}
 use Rattle.jiff_core.proofs.SignedLemmas.{signed_arith, signed_casts}
-use Rattle.cs_types.specs.Civil.{HasCivilDate, date_field, IsDay}
-use Rattle.cs_types.specs.Moment.{HasCivilMoment, HasClock, moment_field, clock_field, nanosecond_field}
+use Rattle.cs_types.specs.Civil.{date_field, IsDay}
+use Rattle.cs_types.specs.Moment.{moment_field, clock_field, nanosecond_field}
 use Rattle.cs_types.proofs.moment.fields.Goals as goal
 
 number : (text : List ℕ) (day us : ℤ) (second nanos rest : ℕ) → day ≡ date_field text → second ≡ clock_field text → nanos ≡ nanosecond_field text

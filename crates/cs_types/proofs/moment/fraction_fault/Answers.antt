@@ -1,6 +1,4 @@
-use Rattle.std.proofs.Common.{◌≡◌, ◌<◌, ◌≤◌, ◌-◌, ◌+◌, ℕ, suc, length, get_or, drop, true, false, sym, ap, ◌∙◌, arith}
-use Rattle.cs_types.specs.Shape.{allows}
-use Rattle.cs_types.specs.Moment.{closing, zulu}
+use Rattle.std.proofs.Common.{sym, ◌∙◌}
 use Rattle.cs_types.proofs.Walk.{fraction_early, fraction_point, fraction_other}
 use Rattle.cs_types.proofs.moment.fraction_fault.Goals as goal
 

@@ -1,5 +1,5 @@
-use Rattle.std.proofs.Common.{◌≡◌, ◌<◌, ◌≤◌, ◌-◌, ◌+◌, ◌*◌, ◌/◌, ℕ, ℤ, pos, ◌*ℤ◌, ◌+ℤ◌, to_z, of_z, to_z-of_z, FitsSigned, w64, sym, ap, ◌∙◌, arith}
-use Rattle.jiff_core.proofs.SignedLemmas.{signed_arith, signed_casts}
+use Rattle.std.proofs.Common.{◌≡◌, ◌/◌, pos, ◌*ℤ◌, ◌+ℤ◌, to_z, of_z, w64, arith}
+use Rattle.jiff_core.proofs.SignedLemmas.{signed_casts}
 use Rattle.cs_types.proofs.moment.microseconds.Goals as goal
 
 pub returns : goal.returns

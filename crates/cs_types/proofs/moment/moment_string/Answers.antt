@@ -1,7 +1,7 @@
-use Rattle.std.proofs.Common.{◌≡◌, ℕ, ℤ, pos, to_z, of_z, w32, w64, ap, sym, ◌∙◌, append_assoc, arith, unsigned_abs}
+use Rattle.std.proofs.Common.{◌≡◌, ℤ, pos, to_z, of_z, w32, w64, ap, ◌∙◌, append_assoc, arith}
 use Rattle.std.specs.Int.{int_div_euclid, int_rem_euclid}
-use Rattle.jiff_core.proofs.SignedLemmas.{signed_arith, signed_casts}
-use Rattle.cs_types.specs.Civil.{IsDay, date_text}
+use Rattle.jiff_core.proofs.SignedLemmas.{signed_casts}
+use Rattle.cs_types.specs.Civil.{date_text}
 use Rattle.cs_types.specs.Moment.{moment_text, day_number, microsecond_of}
 use Rattle.cs_types.proofs.MomentTexts.{parts_of_moment}
 use Rattle.cs_types.proofs.moment.moment_string.Goals as goal

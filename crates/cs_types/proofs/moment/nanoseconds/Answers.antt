@@ -1,4 +1,4 @@
-use Rattle.std.proofs.Common.{◌≡◌, ◌<◌, ◌≤◌, ◌-◌, ◌+◌, ◌*◌, ◌/◌, ℕ, List, length, get_or, drop, sym, ap, ◌∙◌, arith, mul-le-mul_right}
+use Rattle.std.proofs.Common.{◌≡◌, ◌<◌, ◌≤◌, ◌-◌, ◌+◌, ◌*◌, ◌/◌, ℕ, get_or, drop, sym, ap, ◌∙◌, arith, mul-le-mul_right}
 use Rattle.cs_types.specs.Moment.{tenths}
 use Rattle.cs_types.proofs.Fields.{tenths_more, tenths_end}
 use Rattle.cs_types.proofs.moment.nanoseconds.Goals as goal

@@ -1,5 +1,5 @@
-use Rattle.std.proofs.Common.{◌≡◌, None, Some, sym, subst, ◌∙◌, MatchOption, Option, ℕ}
-use Rattle.cs_types.specs.Shape.{unfit, IsFaultPlace}
+use Rattle.std.proofs.Common.{sym, subst, ◌∙◌, MatchOption, Option, ℕ}
+use Rattle.cs_types.specs.Shape.{IsFaultPlace}
 use Rattle.cs_types.specs.Moment.{IsMomentShape}
 use Rattle.cs_types.proofs.FaultPlaces.{shape_stops, shape_walks}
 use Rattle.cs_types.proofs.moment.shape_fault.Goals as goal

@@ -1,6 +1,4 @@
-use Rattle.std.proofs.Common.{◌≡◌, ◌<◌, ◌≤◌, ◌-◌, ◌+◌, ℕ, suc, length, get_or, drop, true, false, sym, ap, ◌∙◌, arith}
-use Rattle.cs_types.specs.Shape.{allows}
-use Rattle.cs_types.specs.Moment.{closing, zulu}
+use Rattle.std.proofs.Common.{sym, arith}
 use Rattle.cs_types.proofs.Walk.{zulu_early, zulu_other, zulu_more, zulu_last}
 use Rattle.cs_types.proofs.moment.zulu_fault.Goals as goal
 

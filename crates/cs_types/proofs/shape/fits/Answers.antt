@@ -1,4 +1,4 @@
-use Rattle.std.proofs.Common.{◌≡◌, ◌≤◌, length, ◌∙◌, arith, sym, true}
+use Rattle.std.proofs.Common.{◌≤◌, length, ◌∙◌, arith, sym}
 use Rattle.std.proofs.lemmas.Bool.Decides.{nat_tests}
 use Rattle.cs_types.proofs.Patterns.{fits_where_none, none_where_fits, length_of_fit}
 use Rattle.cs_types.proofs.shape.fits.Goals as goal

@@ -1,7 +1,7 @@
-use Rattle.std.proofs.Common.{◌≡◌, ℕ, ℤ, pos, Ok, List, to_z, of_z, unsigned_abs, w64, sym, subst, ap, ◌∙◌, arith}
+use Rattle.std.proofs.Common.{◌≡◌, ℕ, pos, Ok, List, to_z, of_z, unsigned_abs, w64, sym, subst, ap, arith}
 use Rattle.jiff_core.proofs.SignedLemmas.{signed_casts}
 use Rattle.cs_types.specs.Moment.{SpellsBetween}
-use Rattle.cs_types.specs.Stamp.{Spells, stamp_text}
+use Rattle.cs_types.specs.Stamp.{Spells}
 use Rattle.cs_types.proofs.Moments.{never_both, same_number}
 use Rattle.cs_types.proofs.MomentTexts.{stamp_spelled}
 use Rattle.cs_types.proofs.stamp.Stamp.read.Goals as goal
