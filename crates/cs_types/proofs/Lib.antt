@@ -1,1 +1,9 @@
+pub mod Calendar
+pub mod DateTexts
+pub mod FaultPlaces
+pub mod Fields
+pub mod Moments
+pub mod MomentTexts
+pub mod Patterns
 pub mod SameRow
+pub mod Walk

@@ -1,0 +1,76 @@
+use crate::civil::{DateFault, read_date, write_date};
+use crate::moment::{read_moment, write_moment};
+use crate::{Memory, Stamp, StampFault, Text};
+use std::alloc::Global;
+use std::test::Fail;
+
+/// The text that is written for the stamp of a text.
+fn again(alloc: Global, text: &[u8]) -> Result<Option<Text>, Memory> {
+    match Stamp::read(text) {
+        Ok(stamp) => Ok(Some(stamp.write(alloc)?)),
+        Err(_) => Ok(None),
+    }
+}
+
+fn told(text: &[u8]) -> Result<u64, StampFault> {
+    Ok(Stamp::read(text)?.us())
+}
+
+#[test]
+fn reads_stamps(rt: HostRuntime) -> Result<(), Fail> {
+    let texts: [(&[u8], Result<u64, StampFault>); 8] = [
+        (b"2024-05-01T01:01:01Z", Ok(1_714_525_261_000_000)),
+        (b"2024-02-29T00:00:00.5Z", Ok(1_709_164_800_500_000)),
+        (b"2024-02-30T00:00:00Z", Err(StampFault::Range)),
+        (b"1970-01-01T00:00:00Z", Err(StampFault::Range)),
+        (b"9999-12-31T23:59:59.9999999Z", Err(StampFault::Range)),
+        (b"2024-05-01T00:00:00.0000001Z", Err(StampFault::TooFine)),
+        (b"2024-05-01 00:00:00Z", Err(StampFault::Shape(10))),
+        (
+            b"2024-05-01T00:00:00.0123456789Z",
+            Err(StampFault::Shape(29)),
+        ),
+    ];
+    for (text, want) in &texts {
+        assert_eq!(rt; told(text), *want);
+    }
+    Ok(())
+}
+
+#[test]
+fn writes_stamps(rt: HostRuntime) -> Result<(), Fail> {
+    let alloc = rt.alloc();
+    let least = Text::of(alloc, "1970-01-01T00:00:00.000001Z")?;
+    let greatest = Text::of(alloc, "9999-12-31T23:59:59.999999Z")?;
+    assert_eq!(rt;
+        again(alloc, b"1970-01-01T00:00:00.000001000Z")?,
+        Some(least)
+    );
+    assert_eq!(rt;
+        again(alloc, b"9999-12-31T23:59:59.999999Z")?,
+        Some(greatest)
+    );
+    Ok(())
+}
+
+#[test]
+fn takes_years_1_to_9999(rt: HostRuntime) -> Result<(), Fail> {
+    assert_eq!(rt; read_date(b"0001-01-01"), Ok(-719_162));
+    assert_eq!(rt; read_date(b"0000-12-31"), Err(DateFault::Range));
+    assert_eq!(rt;
+        read_moment(b"0001-01-01T00:00:00Z"),
+        Ok(-62_135_596_800_000_000)
+    );
+    Ok(())
+}
+
+#[test]
+fn writes_dates_and_moments(rt: HostRuntime) -> Result<(), Fail> {
+    let alloc = rt.alloc();
+    assert_eq!(rt; write_date(alloc, 2_932_896)?.as_str(), "9999-12-31");
+    assert_eq!(rt;
+        write_moment(alloc, -1_000_000)?.as_str(),
+        "1969-12-31T23:59:59Z"
+    );
+    Ok(())
+}
