@@ -1,7 +1,11 @@
 pub mod Integers
+pub mod Calendar
+pub mod DateTexts
+pub mod Patterns
 pub mod SameRow
 pub mod Capped
 pub mod NumericReading
 pub mod NumericWriting
 pub mod NumericBack
 pub mod ReadBack
+pub mod ApartCells
