@@ -1,5 +1,6 @@
 pub mod Integers
 pub mod Calendar
+pub mod DateReading
 pub mod DateTexts
 pub mod Patterns
 pub mod SameRow

@@ -16,8 +16,7 @@ returns-then-not-branch c =
 pub loop-cell-preserved : goal.loop-cell-preserved
 loop-cell-preserved c =
     let had = was_false _ (sym c.in_ok-insert.ensures.added ∙ c.if-not-branch.false) in
-    let none : list_any (same_column c.cell-item.result) (take c.loop-cell.cell-index c.args.cells.now) ≡ false = sym (c.loop-cell.invariant.1 c.cell-item.result.column) ∙ rw c.in_ok-copy.ensures at had in
-    (
+    let none : list_any (same_column c.cell-item.result) (take c.loop-cell.cell-index c.args.cells.now) ≡ false = sym (c.loop-cell.invariant.1 c.cell-item.result.column) ∙ rw c.in_ok-copy.ensures at had in (
       pushed_apart c.args.cells.now c.loop-cell.cell-index c.cell-item.result c.cell-item.is c.loop-cell-test.true c.loop-cell.invariant.0 none,
       λ q. pushed_seen c.args.cells.now c.loop-cell.cell-index c.cell-item.result q _ _ c.cell-item.is c.loop-cell-test.true (rw c.in_ok-copy.ensures at (c.in_ok-insert.ensures.updates.0 q)) (c.loop-cell.invariant.1 q),
     )
