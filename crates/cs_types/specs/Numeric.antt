@@ -1,9 +1,13 @@
 -- The texts of a NUMERIC (GoogleSQL data types: 29 digits before the point and 9 behind it), held in billionths.
-use Rattle.std.specs.Prelude.{◌≡◌, ℕ, zero, suc, ◌+◌, ◌*◌, ◌/◌, ◌%◌, ◌^◌, ◌<◌, ◌≤◌, List, [], ◌∷◌, ◌++◌, Bool, true, false, ◌&&◌, nat_lt, ◌==◌, length, drop, ℤ, pos, negsuc, neg_ℤ, if◌then◌else◌, Option, Some, None, Result, Ok, Err, decimal, cond}
+use Rattle.std.specs.Prelude.{◌≡◌, ℕ, zero, suc, ◌+◌, ◌*◌, ◌/◌, ◌%◌, ◌^◌, ◌<◌, ◌≤◌, List, [], ◌∷◌, ◌++◌, Bool, true, false, ◌&&◌, nat_lt, ◌==◌, length, drop, ℤ, pos, negsuc, neg_ℤ, ◌-ℤ◌, ◌<ℤ◌, if◌then◌else◌, Option, Some, None, Result, Ok, Err, decimal, cond}
 use Rattle.std.specs.Str.Parse.{digits_value}
 use Rattle.cs_types.specs.declared.value_fault.ValueFault.{ValueFault}
 use Rattle.cs_types.specs.declared.value_fault.ValueFault.TheVariants.{Range, BadText}
 use Rattle.cs_types.specs.Digits.{all_digits, all_zeros, is_digits, first_digits}
+
+-- below 10^38 billionths in absolute value
+abbrev pub IsNumeric : ℤ → Type 0
+IsNumeric n = ((pos 0 -ℤ pos 100000000000000000000000000000000000000) <ℤ n) × (n <ℤ pos 100000000000000000000000000000000000000)
 
 -- what stands before the first point; all where there is none
 unfoldable pub whole_part : List ℕ → List ℕ

@@ -1,7 +1,7 @@
 ghost use Rattle.std.specs.Prelude.{◌≡◌, ◌+◌, ◌^◌, ◌<◌, ◌≤◌, ◌++◌, true, drop, IfOk, string_bytes};
 ghost use Rattle.std.specs.Str.Parse.{digits_value};
 ghost use Rattle.cs_types.specs.Digits.{all_digits, all_zeros, first_digits, capped};
-ghost use Rattle.cs_types.specs.Numeric.{whole_reading, magnitude_reading, signed, numeric_reading, fraction_text, magnitude_text, numeric_text};
+ghost use Rattle.cs_types.specs.Numeric.{IsNumeric, whole_reading, magnitude_reading, signed, numeric_reading, fraction_text, magnitude_text, numeric_text};
 
 use crate::digits::{are_zeros, is_digits, with_digits, with_first_digits};
 use crate::{Memory, ValueFault};
@@ -18,7 +18,8 @@ const ONE: u128 = 1_000_000_000;
 /// none. `BadText` for another text; `Range` from 10^29 on, and where a digit behind the ninth of
 /// the fraction is not zero.
 pub(crate) fn read_numeric(text: &str) -> Result<i128, ValueFault>
-    ensures { result ≡ numeric_reading text.now }
+    ensures value { result ≡ numeric_reading text.now }
+    ensures range { IfOk result IsNumeric }
 {
     if text.len() > TEXT_LIMIT {
         return Err(ValueFault::BadText);
@@ -31,7 +32,8 @@ pub(crate) fn read_numeric(text: &str) -> Result<i128, ValueFault>
 
 fn with_sign(negative: bool, magnitude: Result<u128, ValueFault>) -> Result<i128, ValueFault>
     requires { IfOk magnitude (λ n. n < 10 ^ 38) }
-    ensures { result ≡ signed negative magnitude }
+    ensures value { result ≡ signed negative magnitude }
+    ensures range { IfOk result IsNumeric }
 {
     let n = magnitude? as i128;
     Ok(if negative { -n } else { n })
