@@ -50,7 +50,7 @@ fields_civil y m d more h = rw (fields_year y m d more, fields_month y m d more,
 pub fields_number : (y m d : ℕ) (more : List ℕ) → date_field (fields_text y m d ++ more) ≡ days_from_civil (pos y) m d
 fields_number y m d more = rw (fields_year y m d more, fields_month y m d more, fields_day y m d more) refl
 
-short_day : (y m d : ℕ) → IsCivil y m d → d < 100
+pub short_day : (y m d : ℕ) → IsCivil y m d → d < 100
 short_day y m d h = omega (arith, h.day_in.1, days_in_month_bounds (pos y) m)
 
 pub date_spelled : (day : ℤ) → IsDay day → SpellsDate (date_text day) day

@@ -2,6 +2,10 @@ pub mod Integers
 pub mod Calendar
 pub mod DateReading
 pub mod DateTexts
+pub mod FaultPlaces
+pub mod Fields
+pub mod Moments
+pub mod MomentTexts
 pub mod Patterns
 pub mod SameRow
 pub mod Capped
@@ -10,3 +14,5 @@ pub mod NumericWriting
 pub mod NumericBack
 pub mod ReadBack
 pub mod ApartCells
+pub mod Walk
+pub mod TimestampReading

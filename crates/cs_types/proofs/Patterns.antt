@@ -6,26 +6,26 @@ use Rattle.cs_types.specs.Shape.{allows, Fits, unfit, digit_at, two_at, two_digi
 pub digit_fits : (n : ℕ) → n < 10 → allows 100 (48 + n) ≡ true
 digit_fits n h = grind (arith, h)
 
-unfit_more : (at m b : ℕ) (ms bs : List ℕ) → allows m b ≡ true → unfit at (m ∷ ms) (b ∷ bs) ≡ unfit (at + 1) ms bs
+pub unfit_more : (at m b : ℕ) (ms bs : List ℕ) → allows m b ≡ true → unfit at (m ∷ ms) (b ∷ bs) ≡ unfit (at + 1) ms bs
 unfolding unfit
 unfit_more at m b ms bs h = rw h refl
 
-unfit_here : (at m b : ℕ) (ms bs : List ℕ) → allows m b ≡ false → unfit at (m ∷ ms) (b ∷ bs) ≡ Some at
+pub unfit_here : (at m b : ℕ) (ms bs : List ℕ) → allows m b ≡ false → unfit at (m ∷ ms) (b ∷ bs) ≡ Some at
 unfolding unfit
 unfit_here at m b ms bs h = rw h refl
 
-unfit_short : (at m : ℕ) (ms : List ℕ) → unfit at (m ∷ ms) [] ≡ Some at
+pub unfit_short : (at m : ℕ) (ms : List ℕ) → unfit at (m ∷ ms) [] ≡ Some at
 unfolding unfit
 unfit_short at m ms = refl
 
-unfit_done : (at : ℕ) (bs : List ℕ) → unfit at [] bs ≡ None
+pub unfit_done : (at : ℕ) (bs : List ℕ) → unfit at [] bs ≡ None
 unfolding unfit
 unfit_done at bs = refl
 
-some_is_not_none : {A : Type 0} (a : A) → Some a ≡ None → ⊥
+pub some_is_not_none : {A : Type 0} (a : A) → Some a ≡ None → ⊥
 some_is_not_none a e = cc
 
-by_test : {P : Type 0} (t : Bool) → (t ≡ true → P) → (t ≡ false → P) → P
+pub by_test : {P : Type 0} (t : Bool) → (t ≡ true → P) → (t ≡ false → P) → P
 by_test true so else_so = so refl
 by_test false so else_so = else_so refl
 

@@ -6,9 +6,12 @@ use Rattle.cs_types.specs.declared.value.Value.{Value}
 use Rattle.cs_types.specs.declared.value.Value.TheVariants.{Null, Bool as Boolean, Int64, Numeric, Text, Bytes, Date, Timestamp}
 use Rattle.cs_types.specs.declared.column_type.ColumnType.{ColumnType}
 use Rattle.cs_types.specs.Civil.{date_text}
+use Rattle.cs_types.specs.Moment.{moment_text}
 use Rattle.cs_types.specs.Value.{IsInRange, of_decoded, held, value_data, Spells, IsOfType, IsWithin}
 use Rattle.cs_types.proofs.DateReading.{date_read}
 use Rattle.cs_types.proofs.DateTexts.{date_spelled}
+use Rattle.cs_types.proofs.TimestampReading.{moment_read}
+use Rattle.cs_types.proofs.MomentTexts.{moment_spelled}
 use Rattle.cs_types.proofs.Integers.{integer_written}
 use Rattle.cs_types.proofs.NumericBack.{numeric_written}
 
@@ -20,4 +23,4 @@ spells_written ty (Numeric n) of range within = rw of (ap (held Numeric) (numeri
 spells_written ty (Text t) of range within = rw of refl
 spells_written ty (Bytes b) of range within = rw of (ap of_decoded (decode_of-encode_of standard b (search rules) within))
 spells_written ty (Date d) of range within = rw of (ap (held Date) (date_read (date_text d) d (date_spelled d range)))
-spells_written ty (Timestamp t) of range within = absurd of
+spells_written ty (Timestamp t) of range within = rw of (ap (held Timestamp) (moment_read (moment_text t) t (moment_spelled t range)))

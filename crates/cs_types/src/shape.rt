@@ -3,12 +3,19 @@ ghost use Rattle.cs_types.specs.Shape.{allows, Fits, unfit, digit_at, two_at, tw
 
 use std::alloc::{AllocError, Global};
 
+/// Whether the byte is a digit.
+pub(crate) fn is_digit(byte: u8) -> bool
+    ensures { result ≡ allows 100 byte }
+{
+    byte.is_ascii_digit()
+}
+
 /// Whether a byte of a pattern, `d` for any digit and each other byte for itself, allows the byte.
 fn allows(mark: u8, byte: u8) -> bool
     ensures { result ≡ allows mark byte }
 {
     if mark == b'd' {
-        byte.is_ascii_digit()
+        is_digit(byte)
     } else {
         byte == mark
     }
