@@ -1,4 +1,6 @@
+pub mod Integers
 pub mod Calendar
+pub mod DateReading
 pub mod DateTexts
 pub mod FaultPlaces
 pub mod Fields
@@ -6,4 +8,11 @@ pub mod Moments
 pub mod MomentTexts
 pub mod Patterns
 pub mod SameRow
+pub mod Capped
+pub mod NumericReading
+pub mod NumericWriting
+pub mod NumericBack
+pub mod ReadBack
+pub mod ApartCells
 pub mod Walk
+pub mod TimestampReading
