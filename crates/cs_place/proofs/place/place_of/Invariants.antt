@@ -1,4 +1,4 @@
-use Rattle.std.proofs.Common.{◌≡◌, ◌++◌, take, flat_map}
+use Rattle.std.proofs.Common.{◌≡◌, ◌++◌, take}
 use Rattle.cs_place.specs.Place.{key_place}
 use Rattle.cs_place.proofs.place.place_of.Given as goal
 
