@@ -123,6 +123,7 @@ fn date_bytes(days: i32) -> [u8; 4]
 {
     raised_days(days).to_be_bytes()
 }
+
 /// The number with its top bit turned over: 2^63 above it.
 fn raised(n: i64) -> u64
     ensures { result ≡ lifted (2 ^ 63) n }
@@ -134,20 +135,12 @@ fn raised(n: i64) -> u64
 fn raised_wide(n: i128) -> u128
     ensures { result ≡ lifted (2 ^ 127) n }
 {
-    if n < 0 {
-        (1 << 127) - n.unsigned_abs()
-    } else {
-        (1 << 127) + n.unsigned_abs()
-    }
+    n.cast_unsigned() ^ (1 << 127)
 }
 
 /// 2^31 above it.
 fn raised_days(n: i32) -> u32
     ensures { result ≡ lifted (2 ^ 31) n }
 {
-    if n < 0 {
-        (1 << 31) - n.unsigned_abs()
-    } else {
-        (1 << 31) + n.unsigned_abs()
-    }
+    n.cast_unsigned() ^ (1 << 31)
 }
