@@ -7,7 +7,7 @@ use Rattle.cs_types.specs.Value.{IsInRange}
 use Rattle.cs_types.specs.declared.cells.Cell.{Cell}
 use Rattle.cs_types.specs.declared.change.RowName.{RowName}
 
--- a number as the natural number that stands half of the type's numbers above it: the top bit turned over
+-- a number and half of the count of its type's numbers, so that the least is 0: the top bit turned over
 abbrev pub lifted : ℕ → ℤ → ℕ
 lifted half (pos n) = half + n
 lifted half (negsuc n) = half - 1 - n

@@ -23,9 +23,8 @@ impl Duplicate for Place {
 pub fn place_of(alloc: Global, row: &RowName) -> Result<Place, Memory>
     ensures { IfOk result (λ place. place.bytes ≡ place_bytes row.now) }
 {
-    let mut bytes = Vec::new(alloc);
-    bytes.extend_from_slice(row.table.as_str().as_bytes())?;
-    bytes.push(0)?;
+    let Place { bytes } = table_place(alloc, &row.table)?;
+    let mut bytes = bytes.into_vec();
     for cell in row.key.items() {
         put_value(&mut bytes, &cell.value)?;
     }
