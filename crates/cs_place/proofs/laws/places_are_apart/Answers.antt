@@ -1,0 +1,5 @@
+use Rattle.cs_place.proofs.Order.{rows_apart}
+use Rattle.cs_place.proofs.laws.places_are_apart.Goals as goal
+
+pub returns : goal.returns
+returns c = rows_apart
