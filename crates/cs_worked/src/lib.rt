@@ -1,0 +1,5 @@
+//! Worked values, tried on the public calls of the crates below with ample memory. It has tests alone.
+#![tactic(auto)]
+
+#[cfg(test)]
+mod values;
