@@ -11,3 +11,5 @@ pub mod Cutting
 pub mod Rules
 pub mod Spans
 pub mod Peek
+pub mod QueryRules
+pub mod QueryWhole

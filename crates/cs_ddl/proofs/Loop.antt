@@ -1,11 +1,11 @@
 -- Reading parts one after the other, as a loop does.
-use Rattle.std.proofs.Common.{◌≡◌, ℕ, zero, suc, ◌-◌, ◌+◌, ◌≤◌, ◌<◌, Bool, true, false, cond, List, [], ◌∷◌, ◌++◌, length, Result, Ok, Err, refl, sym, ap, ◌∙◌, append_assoc, arith}
+use Rattle.std.proofs.Common.{◌≡◌, ℕ, zero, suc, ◌-◌, ◌+◌, ◌≤◌, ◌<◌, Bool, true, false, cond, List, [], ◌∷◌, ◌++◌, length, Result, Ok, Err, refl, sym, ap, subst, ◌∙◌, append_assoc, arith}
 use Rattle.std.proofs.lemmas.List.{append-nil}
 use Rattle.cs_ddl.specs.declared.fault.Refusal.{Refusal}
 use Rattle.cs_ddl.specs.declared.fault.Refusal.TheVariants as refusals
 use Rattle.cs_ddl.specs.declared.token.Kind.TheVariants.{Comma}
 use Rattle.cs_ddl.specs.Token.{Lexeme}
-use Rattle.cs_ddl.specs.Reading.{Read, ◌>>=◌, Fails, behind, starts_with_sign}
+use Rattle.cs_ddl.specs.Reading.{Read, ◌>>=◌, Fails, Gives, behind, starts_with_sign}
 use Rattle.cs_ddl.specs.Lists.{parts_at, with_front, ends_behind}
 
 regroup : {A : Type 0} (front : List A) (x : A) (read : Read (List A)) → with_front front (with_front (x ∷ []) read) ≡ with_front (front ++ x ∷ []) read
@@ -51,3 +51,10 @@ runs_out p b front n i ts total le so_far =
     let k : n - i ≡ 0 = omega arith in
     let one : with_front front (parts_at p b (n - i) ts) ≡ Err (length ts) = rw k refl in
     sym so_far ∙ one
+
+front_nil : {A : Type 0} (read : Read (List A)) → with_front [] read ≡ read
+front_nil (Ok x) = refl
+front_nil (Err n) = refl
+
+pub no_front : {A X : Type 0} (r : Result X Refusal) (view : X → List A × List Lexeme) (read : Read (List A)) → Gives view r (with_front [] read) → Gives view r read
+no_front r view read g = subst (λ read. Gives view r read) (front_nil read) g

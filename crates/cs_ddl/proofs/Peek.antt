@@ -5,7 +5,7 @@ use Rattle.cs_ddl.specs.Reading.{Read, peek, starts}
 use Rattle.cs_ddl.specs.Grammar.{Part, Matches}
 use Rattle.cs_ddl.proofs.Laws.{Laws, Took, Failed, Opens, SameHead, SameHead-front, starts-same, chosen}
 
-same_start : (test : Lexeme → Bool) (b : Bool) (ts front us vs : List Lexeme) → starts test ts ≡ b → ts ≡ front ++ us → SameHead us vs → starts test (front ++ vs) ≡ b
+pub same_start : (test : Lexeme → Bool) (b : Bool) (ts front us vs : List Lexeme) → starts test ts ≡ b → ts ≡ front ++ us → SameHead us vs → starts test (front ++ vs) ≡ b
 same_start test b ts front us vs h parts same = sym (starts-same test (front ++ us) (front ++ vs) (SameHead-front front us vs same)) ∙ rw (← parts) h
 
 peeked_other : {A : Type 0} (test : Lexeme → Bool) (p q : List Lexeme → Read A) (spell : A → List Part) (of2 : A → Type 0) (next : List Part → Type 0) → Laws q spell of2 next

@@ -6,3 +6,5 @@ pub mod Grammar
 pub mod Lex
 pub mod Text
 pub mod Grammars
+pub mod Query
+pub mod QueryReading

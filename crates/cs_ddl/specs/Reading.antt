@@ -89,6 +89,10 @@ may_at test ts = if starts test ts then Ok (tt, behind ts) else Ok (tt, ts)
 unfoldable pub may_word_at : List ℕ → List Lexeme → Read (Unit {0})
 may_word_at w = may_at (is_word w)
 
+-- a word of the grammar as it is spelled
+unfoldable pub spelled_at : List ℕ → List Lexeme → Read (List ℕ)
+spelled_at w ts = token_at (is_word w) (λ t. t.text) ts
+
 unfoldable pub number_at : List Lexeme → Read (List ℕ)
 number_at ts = token_at is_number (λ t. t.text) ts
 

@@ -1,6 +1,7 @@
 ghost use Rattle.std.specs.Prelude.{◌≡◌, ℕ, List, Result, Ok, length};
-ghost use Rattle.cs_ddl.specs.Reading.{Gives, word_at, sign_at, name_at, function_at, number_at, text_at, may_word_at, behind, starts_with_sign, starts_with_word};
+ghost use Rattle.cs_ddl.specs.Reading.{Gives, word_at, sign_at, name_at, function_at, number_at, text_at, may_word_at, spelled_at, starts, behind, starts_with_sign, starts_with_word};
 ghost use Rattle.cs_ddl.specs.Lists.{ends_behind};
+ghost use Rattle.cs_ddl.specs.Token.{is_name};
 
 use crate::Word;
 use crate::fault::Refusal;
@@ -136,6 +137,31 @@ impl<'t> Cursor<'t> {
     {
         if self.is_word(word) {
             self.skip();
+        }
+    }
+
+    /// Whether a name is next.
+    pub(crate) fn is_name(&self) -> bool
+        ensures { result ≡ starts is_name self.now }
+    {
+        match self.tokens {
+            [first, ..] => first.is_name(128),
+            [] => false,
+        }
+    }
+
+    /// Reads this word of the grammar as it is spelled.
+    #[tactic(auto, unfolding(crate::specs::Reading::spelled_at))]
+    pub(crate) fn spelled(&mut self, alloc: Global, word: &[u8]) -> Result<Word, Refusal>
+        ensures { Gives (λ w. (w, self.new)) result (spelled_at word.now self.old) }
+    {
+        match self.tokens {
+            [first, ..] if first.is_word(word) => {
+                let spelled = Word::of(alloc, first.text())?;
+                self.skip();
+                Ok(spelled)
+            }
+            _ => Err(Refusal::Left(self.left())),
         }
     }
 

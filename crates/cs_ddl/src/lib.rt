@@ -8,6 +8,7 @@ mod fault;
 mod grammar;
 mod lex;
 mod list;
+mod query;
 mod reserved;
 mod run;
 mod statement;
@@ -17,6 +18,7 @@ mod word;
 
 pub use fault::SyntaxFault;
 pub use lex::spans_in_order;
+pub use query::{one_query, parse_query};
 pub use run::{CopyTree, Run};
 pub use statement::{one_tree, parse_ddl};
 pub use token::{Kind, Token};

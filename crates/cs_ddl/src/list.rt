@@ -1,7 +1,7 @@
 ghost use Rattle.std.specs.Prelude.{◌≡◌, ℕ, List, Result};
 ghost use Rattle.cs_ddl.specs.Token.{Lexeme};
 ghost use Rattle.cs_ddl.specs.Reading.{Gives};
-ghost use Rattle.cs_ddl.specs.Lists.{list_at};
+ghost use Rattle.cs_ddl.specs.Lists.{list_at, with_front};
 
 use crate::Run;
 use crate::cursor::Cursor;
@@ -27,7 +27,19 @@ pub(crate) fn list<P: Part>(
 ) -> Result<Run<P::Value>, Refusal>
     ensures { Gives (λ xs. (xs, cursor.new)) result (list_at P.reads trailing cursor.old) }
 {
-    let mut items = Run::new(alloc);
+    list_behind::<P>(alloc, cursor, Run::new(alloc), trailing)
+}
+
+/// The same behind the parts that are read already.
+pub(crate) fn list_behind<P: Part>(
+    alloc: Global,
+    cursor: &mut Cursor,
+    front: Run<P::Value>,
+    trailing: bool,
+) -> Result<Run<P::Value>, Refusal>
+    ensures { Gives (λ xs. (xs, cursor.new)) result (with_front front (list_at P.reads trailing cursor.old)) }
+{
+    let mut items = front;
     for _ in 0..cursor.left() {
         items.push(P::read(alloc, cursor)?)?;
         if !cursor.is_sign(Kind::Comma) {
