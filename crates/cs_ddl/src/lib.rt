@@ -27,3 +27,6 @@ pub use tree::{
     WatchItem, WatchTree,
 };
 pub use word::Word;
+
+#[cfg(test)]
+mod tests;
