@@ -1,4 +1,7 @@
-use crate::{Cell, Cells, Change, Duplicate, Items, Kind, Memory, RowName, Stamp, Text, Value};
+use crate::{
+    CaptureType, Cell, Cells, Change, Duplicate, Items, Kind, Memory, RowName, Stamp, Text, Token,
+    Value, Window,
+};
 use std::alloc::Global;
 use std::cmp::Ordering;
 use std::test::Fail;
@@ -78,5 +81,35 @@ fn keeps_items(rt: HostRuntime) -> Result<(), Fail> {
     let copy = items.copy()?;
     assert_eq!(rt; copy, items);
     assert_eq!(rt; copy.into_vec().as_slice(), [5].as_slice());
+    Ok(())
+}
+
+#[test]
+fn takes_tokens(rt: HostRuntime) -> Result<(), Fail> {
+    let alloc = rt.alloc();
+    let Some(token) = Token::of(alloc, b"p-0001")? else {
+        panic!(rt; "no token");
+    };
+    assert_eq!(rt; token.bytes(), b"p-0001".as_slice());
+    assert_eq!(rt; token.copy()?, token);
+    assert!(rt; Token::of(alloc, b"a b")?.is_none());
+    Ok(())
+}
+
+#[test]
+fn copies_a_window(rt: HostRuntime) -> Result<(), Fail> {
+    let (Some(start), Some(end)) = (Stamp::of(5), Stamp::of(9)) else {
+        panic!(rt; "no stamp");
+    };
+    let window = Window {
+        stream: Text::of(rt.alloc(), "S")?,
+        start,
+        end,
+    };
+    let copy = window.copy()?;
+    assert_eq!(rt; copy.stream, window.stream);
+    assert_eq!(rt; copy.start, start);
+    assert_eq!(rt; copy.end, end);
+    assert_eq!(rt; CaptureType::NewRow.copy()?, CaptureType::NewRow);
     Ok(())
 }
