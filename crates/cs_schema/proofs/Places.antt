@@ -1,5 +1,5 @@
 -- The map of places, and what stands at a place.
-use Rattle.std.proofs.Common.{◌≡◌, ◌∙◌, sym, ap, subst, refl, ℕ, suc, List, [], ◌∷◌, ◌++◌, length, Some, None, cond, false, true, Bool, is_some, true≢false, arith, rules}
+use Rattle.std.proofs.Common.{◌≡◌, ◌∙◌, sym, ap, subst, refl, ℕ, suc, List, [], ◌∷◌, ◌++◌, length, Some, None, cond, false, true, Bool, is_some, true≢false, rules}
 use Rattle.std.specs.declared.option.Option.{Option}
 use Rattle.std.specs.declared.cmp.Ordering.{Ordering}
 use Rattle.std.specs.declared.cmp.Ordering.TheVariants.{Less, Equal, Greater}
@@ -87,7 +87,7 @@ none_grows name column [] e = refl
 none_grows name column (t ∷ ts) e =
     let n : (table_named name ts ≡ None) × (cond (is_same t.name name) (Some t) None ≡ None) = neither (table_named name ts) (cond (is_same t.name name) (Some t) None) e in
     sym (ap (λ o. cond (is_some o) (t ∷ with_column name column ts) (cond (is_same t.name name) (grown t column ∷ ts) (t ∷ ts))) n.0
-      ∙ ap (λ b. cond b (grown t column ∷ ts) (t ∷ ts)) (not_some (is_same t.name name) t n.1))
+    ∙ ap (λ b. cond b (grown t column ∷ ts) (t ∷ ts)) (not_some (is_same t.name name) t n.1))
 
 some_same : {A : Type 0} {x y : A} → Some x ≡ Some y → x ≡ y
 some_same e = search rules
@@ -100,7 +100,7 @@ grown_named name column (x ∷ ts) i t e g = at (λ j h k. grown_named name colu
     at f (Some j) true b h k r =
         let is : suc j ≡ i = some_same r in
         subst (λ n. slice_set (x ∷ ts) n (grown t column) ≡ x ∷ with_column name column ts) is
-          (ap (λ l. x ∷ l) (f j h (subst (λ n. slice_get (x ∷ ts) n ≡ Some t) (sym is) g)))
+        (ap (λ l. x ∷ l) (f j h (subst (λ n. slice_get (x ∷ ts) n ≡ Some t) (sym is) g)))
     at f (Some j) false b h k r = absurd (true≢false (sym (k ∙ ap is_some h)))
     at f None true b h k r = absurd (true≢false (k ∙ ap is_some h))
     at f None false true h k r =

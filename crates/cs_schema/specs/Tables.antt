@@ -1,9 +1,9 @@
 -- Lists of tables, looked up by name, and a table that gets one column more, as CREATE TABLE and ALTER TABLE .. ADD COLUMN have it (Spanner's pages on its data definition language).
-use Rattle.std.specs.Prelude.{◌≡◌, ℕ, suc, List, [], ◌∷◌, ◌++◌, Some, None, cond, Bool, true, false, is_some, length}
+use Rattle.std.specs.Prelude.{◌≡◌, ℕ, suc, List, [], ◌∷◌, ◌++◌, Some, None, cond, is_some}
 use Rattle.std.specs.declared.option.Option.{Option}
 use Rattle.std.specs.Ordering.{nat_cmp}
 use Rattle.std.specs.Cmp.Lexicographic.{slice_cmp}
-use Rattle.std.specs.BTreeMap.{BTreeMap, is_at, get}
+use Rattle.std.specs.BTreeMap.{BTreeMap, get}
 use Rattle.cs_schema.specs.declared.types.Column.{Column}
 use Rattle.cs_schema.specs.declared.types.Table.{Table}
 use Rattle.cs_schema.specs.Names.{or_this, is_same}
@@ -15,7 +15,7 @@ table_named name (t ∷ ts) = or_this (table_named name ts) (cond (is_same t.nam
 
 -- a table with one column behind the others
 abbrev pub grown : Table → Column → Table
-grown t column = record { name = t.name; columns = t.columns ++ column ∷ []; key = t.key; }
+grown t column = record { name = t.name; columns = t.columns ++ column ∷ []; key = t.key }
 
 -- the tables, of which the one of this name has one column more
 abbrev pub with_column : List ℕ → Column → List Table → List Table

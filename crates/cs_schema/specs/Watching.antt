@@ -1,5 +1,5 @@
 -- What a stream watches: the tables that it names or all, and of each the columns that it lists or all that are no key columns (Spanner's page 'Change streams overview').
-use Rattle.std.specs.Prelude.{◌≡◌, ℕ, List, [], ◌∷◌, Some, None, cond, Bool, true, false, ◌&&◌, not, nat_le, suc}
+use Rattle.std.specs.Prelude.{ℕ, List, [], ◌∷◌, Some, None, cond, Bool, true, false, ◌&&◌, not, suc}
 use Rattle.std.specs.declared.option.Option.{Option}
 use Rattle.cs_schema.specs.declared.types.Table.{Table}
 use Rattle.cs_schema.specs.declared.types.Watched.{Watched}

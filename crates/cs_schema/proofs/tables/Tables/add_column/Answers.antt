@@ -1,4 +1,4 @@
-use Rattle.std.proofs.Common.{rules, ◌∙◌, ◌≡◌, ap, sym, subst, List, ℕ, Some, None}
+use Rattle.std.proofs.Common.{rules, ◌∙◌, ◌≡◌, ap, sym, subst, List, Some, None}
 use Rattle.std.specs.Ordering.{nat_cmp}
 use Rattle.std.specs.Prelude.{OnOk}
 use Rattle.std.specs.Cmp.Lexicographic.{slice_cmp}

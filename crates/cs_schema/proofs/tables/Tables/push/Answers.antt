@@ -1,4 +1,4 @@
-use Rattle.std.proofs.Common.{rules, ◌∙◌, ◌≡◌, ap, sym, subst, List, [], ◌∷◌, ◌++◌, length, ℕ}
+use Rattle.std.proofs.Common.{rules, ◌∙◌, ◌≡◌, subst, List, [], ◌∷◌, ◌++◌}
 use Rattle.cs_schema.specs.declared.types.Table.{Table}
 use Rattle.cs_schema.specs.Tables.{PlacesOf}
 use Rattle.cs_schema.proofs.Places.{places_more}
