@@ -1,0 +1,15 @@
+pub mod Alone
+pub mod Loop
+pub mod Laws
+pub mod ListLaws
+pub mod Words
+pub mod Productions
+pub mod Render
+pub mod Whole
+pub mod Ends
+pub mod Cutting
+pub mod Rules
+pub mod Spans
+pub mod Peek
+pub mod QueryRules
+pub mod QueryWhole

@@ -1,0 +1,15 @@
+use Rattle.std.proofs.Common.{◌≡◌, sym, ◌∙◌}
+use Rattle.cs_ddl.proofs.Ends.{statement_answers, statement_is_this}
+use Rattle.cs_ddl.proofs.statement.parse_ddl.Goals as goal
+
+pub returns-clause-answers : goal.returns-clause-answers
+returns-clause-answers c =
+    let is = c.deref.ensures.value ∙ c.in_ok-tokens.ensures in
+    let same = c.deref-2.ensures.value ∙ sym c.deref.ensures.value in
+    rw (c.answer.ensures, same) (statement_answers c.args.text.now c.deref.result.now c.all-read.result is c.all-read.ensures)
+
+pub returns-clause-only : goal.returns-clause-only
+returns-clause-only c =
+    let is = c.deref.ensures.value ∙ c.in_ok-tokens.ensures in
+    let same = c.deref-2.ensures.value ∙ sym c.deref.ensures.value in
+    rw (c.answer.ensures, same) (statement_is_this c.args.text.now c.deref.result.now c.all-read.result is c.all-read.ensures)
