@@ -6,4 +6,5 @@ pub mod Names
 pub mod Options
 pub mod Streaming
 pub mod Tables
+pub mod WatchList
 pub mod Watching

@@ -1,5 +1,5 @@
 -- What a stream watches: the tables that it names or all, and of each the columns that it lists or all that are no key columns (Spanner's page 'Change streams overview').
-use Rattle.std.specs.Prelude.{ℕ, List, [], ◌∷◌, Some, None, cond, Bool, true, false, ◌&&◌, not, suc}
+use Rattle.std.specs.Prelude.{ℕ, List, [], ◌∷◌, Some, None, cond, Bool, true, false, ◌&&◌, not, suc, is_some}
 use Rattle.std.specs.declared.option.Option.{Option}
 use Rattle.cs_schema.specs.declared.types.Table.{Table}
 use Rattle.cs_schema.specs.declared.types.Watched.{Watched}
@@ -8,31 +8,28 @@ use Rattle.cs_schema.specs.declared.types.Watch.TheVariants.{Nothing, All, Table
 use Rattle.cs_schema.specs.declared.types.Stream.{Stream}
 use Rattle.cs_schema.specs.Names.{is_same, is_among}
 use Rattle.cs_schema.specs.Tables.{table_named}
+use Rattle.cs_schema.specs.WatchList.{item_of}
 
 -- a list of columns has its own, no list has all
 abbrev pub is_listed : Option (List (List ℕ)) → List ℕ → Bool
 is_listed None column = true
 is_listed (Some columns) column = is_among column columns
 
-abbrev pub names_table : List Watched → List ℕ → Bool
-names_table [] table = false
-names_table (w ∷ ws) table = cond (is_same w.table table) true (names_table ws table)
-
-abbrev pub names_column : List Watched → List ℕ → List ℕ → Bool
-names_column [] table column = false
-names_column (w ∷ ws) table column = cond (is_same w.table table && is_listed w.columns column) true (names_column ws table column)
+abbrev pub lists_column : Option Watched → List ℕ → Bool
+lists_column None column = false
+lists_column (Some w) column = is_listed w.columns column
 
 -- a table is watched under ALL, or where an item names it
 abbrev pub watches_table : Watch → List ℕ → Bool
 watches_table Nothing table = false
 watches_table All table = true
-watches_table (Tables ws) table = names_table ws table
+watches_table (Tables ws) table = is_some (item_of table ws)
 
--- a column is watched under ALL, under an item of its table without a list, or where the item lists it
+-- a column is watched under ALL, where the item of its table has no list, or where the item lists it
 abbrev pub watches_column : Watch → List ℕ → List ℕ → Bool
 watches_column Nothing table column = false
 watches_column All table column = true
-watches_column (Tables ws) table column = names_column ws table column
+watches_column (Tables ws) table column = lists_column (item_of table ws) column
 
 -- the names of a table's key columns; none where there is no table
 abbrev pub key_of : Option Table → List (List ℕ)

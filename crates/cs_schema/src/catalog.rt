@@ -12,7 +12,7 @@ use crate::lengths::{column, columns};
 use crate::making::{check_column, check_table};
 use crate::names::{text, texts};
 use crate::streaming::{check_stream, stream};
-use crate::watching::{named_watched, table_watched};
+use crate::watching::named_watched;
 use crate::{SchemaFault, Stream, Table, Tables};
 use cs_ddl::{ColumnTree, OptionTree, Statement, TypeTree, WatchTree, Word};
 use cs_types::{Items, Memory, Stamp, Text};
@@ -151,7 +151,7 @@ impl Stream {
     pub fn watches(&self, catalog: &Catalog, table: &Text, columns: &[Text]) -> bool
         ensures { result ≡ watches_change catalog.now.tables self.now.watch table.now columns.now }
     {
-        if !table_watched(&self.watch, table) {
+        if !self.watch.has_table(table) {
             return false;
         }
         named_watched(&self.watch, table, key(catalog, table), columns)

@@ -1,4 +1,5 @@
 use cs_types::{Memory, Text};
+use std::fmt;
 
 /// Why a statement is refused. Where several hold, the first of them in this order is answered,
 /// but for `Memory`, which may come before any other.
@@ -47,4 +48,41 @@ impl From<Memory> for SchemaFault {
     fn from(_: Memory) -> SchemaFault {
         SchemaFault::Memory
     }
+}
+
+impl fmt::Display for SchemaFault {
+    fn fmt<W: fmt::Write>(&self, f: &mut fmt::Formatter<W>) -> fmt::Result {
+        match self {
+            SchemaFault::TableThere => write!(f, "a table of this name is there"),
+            SchemaFault::NoTable(name) => of_name(f, "there is no table ", name),
+            SchemaFault::NoColumn(name) => of_name(f, "there is no column ", name),
+            SchemaFault::KeyListed(name) => of_name(f, "a watch lists the key column ", name),
+            SchemaFault::ColumnTwice(name) => of_name(f, "a list has twice the column ", name),
+            SchemaFault::StreamThere => write!(f, "a stream of this name is there"),
+            SchemaFault::NoStream => write!(f, "there is no stream of this name"),
+            SchemaFault::TooManyStreams(most) => write!(f, "more than {most} streams"),
+            SchemaFault::ColumnWatched(name, most) => crowded(f, name, *most),
+            SchemaFault::BadOption(name) => of_name(
+                f,
+                "unknown, twice or of a wrong value: ",
+                name,
+            ),
+            SchemaFault::BadRetention => write!(f, "a retention is 24h to 168h or 1d to 7d"),
+            SchemaFault::NotBuilt => write!(f, "this statement or option is not built"),
+            SchemaFault::ItemTwice(table) => of_name(f, "a watch has twice the table ", table),
+            SchemaFault::TooManyColumns(most) => write!(f, "more than {most} columns"),
+            SchemaFault::BadLength => write!(f, "a length is 1 to 2621440, of BYTES to 10485760"),
+            SchemaFault::Memory => write!(f, "want of memory"),
+        }
+    }
+}
+
+fn of_name<W: fmt::Write>(f: &mut fmt::Formatter<W>, words: &str, name: &Text) -> fmt::Result {
+    f.write_str(words)?;
+    f.write_str(name.as_str())
+}
+
+fn crowded<W: fmt::Write>(f: &mut fmt::Formatter<W>, name: &Text, most: u32) -> fmt::Result {
+    write!(f, "more than {most} streams would watch the column ")?;
+    f.write_str(name.as_str())
 }

@@ -11,9 +11,12 @@ mod setting;
 mod streaming;
 mod tables;
 mod types;
+mod watch_list;
 mod watching;
 
 pub use catalog::Catalog;
 pub use fault::SchemaFault;
+pub use names::Names;
 pub use tables::Tables;
 pub use types::{Column, Stream, Table, Watch, Watched};
+pub use watch_list::WatchList;

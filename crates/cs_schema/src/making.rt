@@ -3,9 +3,9 @@ ghost use Rattle.cs_schema.specs.Faults.{not_memory, first_of, no_column, twice_
 ghost use Rattle.cs_schema.specs.Making.{column_names, crowded, many_fault, tree_fault, table_fault, added_fault, column_fault};
 
 use crate::lengths::check_length;
-use crate::names::{Names, again};
+use crate::names::again;
 use crate::watching::count_watchers;
-use crate::{Column, SchemaFault, Stream, Table, Tables};
+use crate::{Column, Names, SchemaFault, Stream, Table, Tables};
 use cs_ddl::{ColumnTree, TypeTree};
 use cs_types::{Duplicate, Items, Memory, Text};
 use std::alloc::Global;

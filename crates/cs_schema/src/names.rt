@@ -67,8 +67,8 @@ pub(crate) fn again(alloc: Global, names: &[Text]) -> Result<Option<Text>, Memor
 }
 
 /// A list of names, of which one is found in the time of a search.
-#[derive(Drop)]
-pub(crate) struct Names {
+#[derive(Debug, Drop)]
+pub struct Names {
     list: Items<Text>,
     set: BTreeMap<Text, ()>,
 }
@@ -86,7 +86,7 @@ impl Model for Names {
 
 impl Names {
     /// These names.
-    pub(crate) fn of(alloc: Global, list: Items<Text>) -> Result<Names, Memory>
+    pub fn of(alloc: Global, list: Items<Text>) -> Result<Names, Memory>
         ensures { IfOk result (λ n. n ≡ list) }
     {
         let set = set_of(alloc, list.as_slice())?;
@@ -94,14 +94,14 @@ impl Names {
     }
 
     /// The names in their order.
-    pub(crate) fn as_slice(&self) -> &[Text]
+    pub fn as_slice(&self) -> &[Text]
         ensures { result.now ≡ self.now }
     {
         self.list.as_slice()
     }
 
     /// Whether a name is among them.
-    pub(crate) fn has(&self, name: &Text) -> bool
+    pub fn has(&self, name: &Text) -> bool
         ensures { result ≡ is_among name.now self.now }
     {
         self.set.contains_key(name)

@@ -3,11 +3,11 @@ ghost use Rattle.cs_schema.specs.Faults.{not_memory, first_of};
 ghost use Rattle.cs_schema.specs.Streaming.{list_made, items_made, tree_made, watch_made, stream_made, no_table, unknown_listed, is_key, key_listed, listed as listed_of, twice_listed, crowded_table, crowded_part, crowded_item, items_of, tables_of, item_twice, crowded_watch, is_stream, items_fault, options_fault, stream_fault};
 
 use crate::making::{check_crowds, check_once, check_there, names_of_columns};
-use crate::names::{Names, again, same, text, texts};
+use crate::names::{again, same, text, texts};
 use crate::options::{
     check_all_built, check_options, check_retentions, chosen_capture, chosen_retention,
 };
-use crate::{SchemaFault, Stream, Table, Tables, Watch, Watched};
+use crate::{Names, SchemaFault, Stream, Table, Tables, Watch, WatchList, Watched};
 use cs_ddl::{OptionTree, Run, WatchItem, WatchTree, Word};
 use cs_types::{Duplicate, Items, Memory, Stamp, Text};
 use std::alloc::Global;
@@ -18,12 +18,12 @@ const MOST_STREAMS: u32 = 10;
 /// The most streams of a column: so many may not watch it before one more is made.
 const MOST_WATCHERS: usize = 3;
 
-fn list(alloc: Global, columns: &Option<Run<Word>>) -> Result<Option<Items<Text>>, Memory>
+fn list(alloc: Global, columns: &Option<Run<Word>>) -> Result<Option<Names>, Memory>
     ensures { IfOk result (λ l. l ≡ list_made columns.now) }
 {
     match columns {
         None => Ok(None),
-        Some(columns) => Ok(Some(texts(alloc, columns.as_slice())?)),
+        Some(columns) => Ok(Some(Names::of(alloc, texts(alloc, columns.as_slice())?)?)),
     }
 }
 
@@ -46,7 +46,10 @@ fn watch(alloc: Global, tree: &Option<WatchTree>) -> Result<Watch, Memory>
     match tree {
         None => Ok(Watch::Nothing),
         Some(WatchTree::All) => Ok(Watch::All),
-        Some(WatchTree::Tables(trees)) => Ok(Watch::Tables(items(alloc, trees.as_slice())?)),
+        Some(WatchTree::Tables(trees)) => Ok(Watch::Tables(WatchList::of(
+            alloc,
+            items(alloc, trees.as_slice())?,
+        )?)),
     }
 }
 
@@ -87,7 +90,7 @@ fn check_tables_there(tables: &Tables, items: &[Watched]) -> Result<(), SchemaFa
     Ok(())
 }
 
-fn listed(columns: &Option<Items<Text>>) -> &[Text]
+fn listed(columns: &Option<Names>) -> &[Text]
     ensures { result.now ≡ listed_of columns.now }
 {
     match columns {
@@ -200,7 +203,7 @@ fn check_crowded_part(
     alloc: Global,
     streams: &[Stream],
     table: &Table,
-    columns: &Option<Items<Text>>,
+    columns: &Option<Names>,
 ) -> Result<(), SchemaFault>
     ensures { MatchResult result (λ _. crowded_part streams.now table.now columns.now ≡ None) (λ e. not_memory e → crowded_part streams.now table.now columns.now ≡ Some e) }
 {

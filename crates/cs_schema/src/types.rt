@@ -1,3 +1,4 @@
+use crate::{Names, WatchList};
 use cs_types::{CaptureType, ColumnType, Items, Stamp, Text};
 
 /// A column of a table.
@@ -30,7 +31,7 @@ pub struct Watched {
     /// Its name.
     pub table: Text,
     /// The names of the watched columns that are no key columns; none stands for all of them.
-    pub columns: Option<Items<Text>>,
+    pub columns: Option<Names>,
 }
 
 /// What a stream watches.
@@ -41,7 +42,7 @@ pub enum Watch {
     /// All columns of all tables, also of those that are made later.
     All,
     /// Some tables.
-    Tables(Items<Watched>),
+    Tables(WatchList),
 }
 
 /// A change stream.

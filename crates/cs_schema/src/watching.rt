@@ -1,62 +1,44 @@
 ghost use Rattle.std.specs.Prelude.{◌≡◌};
-ghost use Rattle.cs_schema.specs.Watching.{is_listed, names_table, names_column, watches_table, watches_column, watches_one, watches_named, watchers};
+ghost use Rattle.cs_schema.specs.Watching.{is_listed, watches_table, watches_column, watches_one, watches_named, watchers};
 
-use crate::names::{among, same};
-use crate::{Stream, Watch, Watched};
-use cs_types::{Items, Text};
+use crate::names::among;
+use crate::{Names, Stream, Watch};
+use cs_types::Text;
 
-fn listed(columns: &Option<Items<Text>>, column: &Text) -> bool
+fn listed(columns: &Option<Names>, column: &Text) -> bool
     ensures { result ≡ is_listed columns.now column.now }
 {
     match columns {
         None => true,
-        Some(columns) => among(column, columns.as_slice()),
+        Some(columns) => columns.has(column),
     }
 }
 
-fn table_in(items: &[Watched], table: &Text) -> bool
-    ensures { result ≡ names_table items.now table.now }
-{
-    for item in items {
-        if same(&item.table, table) {
-            return true;
+impl Watch {
+    /// Whether it watches a table: all are watched, or it names this one. It takes no memory.
+    pub fn has_table(&self, table: &Text) -> bool
+        ensures { result ≡ watches_table self.now table.now }
+    {
+        match self {
+            Watch::Nothing => false,
+            Watch::All => true,
+            Watch::Tables(items) => items.find(table).is_some(),
         }
     }
-    false
-}
 
-fn column_in(items: &[Watched], table: &Text, column: &Text) -> bool
-    ensures { result ≡ names_column items.now table.now column.now }
-{
-    for item in items {
-        if same(&item.table, table) {
-            if listed(&item.columns, column) {
-                return true;
-            }
+    /// Whether it watches a column of a table, which is no key column: all are watched, or it
+    /// names the table, and lists this column where it has a list. It takes no memory.
+    pub fn has_column(&self, table: &Text, column: &Text) -> bool
+        ensures { result ≡ watches_column self.now table.now column.now }
+    {
+        match self {
+            Watch::Nothing => false,
+            Watch::All => true,
+            Watch::Tables(items) => match items.find(table) {
+                Some(item) => listed(&item.columns, column),
+                None => false,
+            },
         }
-    }
-    false
-}
-
-/// Whether a watch names a table.
-pub(crate) fn table_watched(watch: &Watch, table: &Text) -> bool
-    ensures { result ≡ watches_table watch.now table.now }
-{
-    match watch {
-        Watch::Nothing => false,
-        Watch::All => true,
-        Watch::Tables(items) => table_in(items.as_slice(), table),
-    }
-}
-
-/// Whether a watch names a column.
-pub(crate) fn column_watched(watch: &Watch, table: &Text, column: &Text) -> bool
-    ensures { result ≡ watches_column watch.now table.now column.now }
-{
-    match watch {
-        Watch::Nothing => false,
-        Watch::All => true,
-        Watch::Tables(items) => column_in(items.as_slice(), table, column),
     }
 }
 
@@ -64,7 +46,7 @@ fn one_watched(watch: &Watch, table: &Text, key: &[Text], columns: &[Text]) -> b
     ensures { result ≡ watches_one watch.now table.now key.now columns.now }
 {
     for column in columns {
-        if column_watched(watch, table, column) {
+        if watch.has_column(table, column) {
             if !among(column, key) {
                 return true;
             }
@@ -89,7 +71,7 @@ pub(crate) fn count_watchers(streams: &[Stream], table: &Text, column: &Text) ->
 {
     let mut count = 0;
     for stream in streams {
-        if column_watched(&stream.watch, table, column) {
+        if stream.watch.has_column(table, column) {
             count += 1;
         }
     }
