@@ -1,0 +1,4 @@
+pub mod Again
+pub mod Over
+pub mod Places
+pub mod WatchPlaces

@@ -1,0 +1,7 @@
+use Rattle.std.proofs.Common.{◌≡◌, drop}
+use Rattle.cs_schema.specs.Faults.{first_of}
+use Rattle.cs_schema.specs.Streaming.{unknown_listed}
+use Rattle.cs_schema.proofs.streaming.check_all_known.Given as goal
+
+abbrev pub invariant-loop-item : goal.invariant-loop-item
+invariant-loop-item l = first_of (unknown_listed l.tables) (drop l.item-index l.items) ≡ first_of (unknown_listed l.tables) l.items

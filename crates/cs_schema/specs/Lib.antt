@@ -1,0 +1,10 @@
+pub mod Applying
+pub mod Faults
+pub mod Lengths
+pub mod Making
+pub mod Names
+pub mod Options
+pub mod Streaming
+pub mod Tables
+pub mod WatchList
+pub mod Watching
