@@ -20,3 +20,6 @@ pub use names::Names;
 pub use tables::Tables;
 pub use types::{Column, Stream, Table, Watch, Watched};
 pub use watch_list::WatchList;
+
+#[cfg(test)]
+mod tests;
