@@ -1,3 +1,6 @@
+ghost use Rattle.std.specs.Prelude.{IfOk};
+ghost use Rattle.cs_types.specs.Value.{IsInRange};
+
 use cs_types::{
     Cell, Cells, CellsFault, ColumnType, Duplicate, Items, Memory, Text, Value, ValueFault,
 };
@@ -5,7 +8,9 @@ use std::alloc::Global;
 use std::test::Fail;
 
 /// What a text stands for in a column of a type.
-fn read(alloc: Global, text: &str, ty: ColumnType) -> Result<Result<Value, ValueFault>, Memory> {
+fn read(alloc: Global, text: &str, ty: ColumnType) -> Result<Result<Value, ValueFault>, Memory>
+    ensures { IfOk result (λ r. IfOk r IsInRange) }
+{
     let tree = serde_json::Value::String(String::from_str(alloc, text)?);
     Ok(Value::from_tree(alloc, &tree, ty))
 }
