@@ -20,16 +20,6 @@ fn row(alloc: Global, number: i64) -> Result<RowName, Memory> {
 }
 
 #[test]
-fn writes_a_stamp(rt: HostRuntime) -> Result<(), Fail> {
-    let Some(stamp) = Stamp::of(Stamp::FIRST_DAY + 3_661_000_000) else {
-        panic!(rt; "no stamp");
-    };
-    assert_eq!(rt; stamp.us(), 1_714_525_261_000_000);
-    assert_eq!(rt; stamp.write(rt.alloc())?.as_str(), "2024-05-01T01:01:01Z");
-    Ok(())
-}
-
-#[test]
 fn copies_a_change(rt: HostRuntime) -> Result<(), Fail> {
     let alloc = rt.alloc();
     let Some(stamp) = Stamp::of(7) else {
