@@ -18,7 +18,7 @@ use Rattle.cs_tool.proofs.FieldsOf.{commit_unique}
 use Rattle.cs_tool.proofs.Lines.{line_unique, longer_line, has_no_end, all_weaker, no_line_in, line_filled}
 use Rattle.cs_tool.proofs.NoQuotes.{insert_no_quote}
 use Rattle.cs_tool.proofs.Numerals.{own}
-use Rattle.cs_tool.proofs.SecondText.{stamp_text-injective, stamp_text-no_end}
+use Rattle.cs_tool.proofs.StampTexts.{stamp_text-injective, stamp_text-no_end}
 
 field_line : (before value rest : List ℕ) → HasNoEnd before → HasNoEnd value → IsLine rest → IsLine (field before value rest)
 field_line before value rest no_before no_value is =
@@ -44,7 +44,7 @@ decimal-no_end n small = all_weaker (IsInRange 48 57) (λ z. z ≢ 10) digit (de
 -- the line of an insert ends once
 pub insert_is_line : (i : Insert) → IsInsert i → IsLine (insert_line i)
 insert_is_line i is =
-    field_line before_at (stamp_text i.at) _ (has_no_end before_at refl) (stamp_text-no_end i.at is.at)
+    field_line before_at (stamp_text i.at) _ (has_no_end before_at refl) (stamp_text-no_end i.at is.at.stamp)
     (field_line before_id i.id _ (has_no_end before_id refl) (all_weaker IsLetterOrDigit (λ z. z ≢ 10) letter i.id is.id)
     (field_line before_key (decimal i.key) _ (has_no_end before_key refl) (decimal-no_end i.key is.key)
     (field_line before_a (decimal i.a) _ (has_no_end before_a refl) (decimal-no_end i.a is.a)
@@ -71,7 +71,7 @@ same_insert i j e1 e2 e3 e4 e5 = grind (rules, e1, e2, e3, e4, e5)
 pub insert_line-injective : (i j : Insert) → IsInsert i → IsInsert j → insert_line i ≡ insert_line j → i ≡ j
 insert_line-injective i j is is' e =
     let same = commit_unique (stamp_text i.at) i.id (decimal i.key) (decimal i.a) i.b (stamp_text j.at) j.id (decimal j.key) (decimal j.a) j.b (insert_no_quote i is) (insert_no_quote j is') e in
-    same_insert i j (stamp_text-injective i.at j.at is.at is'.at same.same_at) same.same_id
+    same_insert i j (stamp_text-injective i.at j.at is.at.stamp is'.at.stamp same.same_at) same.same_id
     (decimal_injective i.key j.key (omega (arith, is.key)) (omega (arith, is'.key)) same.same_key)
     (decimal_injective i.a j.a (omega (arith, is.a)) (omega (arith, is'.a)) same.same_a) same.same_b
 

@@ -46,15 +46,21 @@ longer_line v line none is = record {
   is = ap (λ l. v ++ l) is.is ∙ sym (append_assoc v is.text (10 ∷ []));
 }
 
-no_end_test : (x : ℕ) → not (x == 10) ≡ true → x ≢ 10
-no_end_test x h e = cc
+other : (m x : ℕ) → not (x == m) ≡ true → x ≢ m
+other m x h e = absurd (by (subst (λ n. not (n == m) ≡ true) e h))
+  where
+    by : not (m == m) ≡ true → ⊥
+    by h = grind (rules, h)
 
 pub all_weaker : (P Q : ℕ → Type 0) → ((x : ℕ) → P x → Q x) → (xs : List ℕ) → All P xs → All Q xs
 all_weaker P Q f xs h = λ k d lt. f _ (h k d lt)
 
 -- by a test
+pub without : (m : ℕ) (xs : List ℕ) → list_all (λ x. not (x == m)) xs ≡ true → All (λ x. x ≢ m) xs
+without m xs h = all_weaker (λ x. not (x == m) ≡ true) (λ x. x ≢ m) (other m) xs (AllPass-from_list_all (λ x. not (x == m)) xs h)
+
 pub has_no_end : (xs : List ℕ) → list_all (λ x. not (x == 10)) xs ≡ true → HasNoEnd xs
-has_no_end xs h = all_weaker (λ x. not (x == 10) ≡ true) (λ x. x ≢ 10) no_end_test xs (AllPass-from_list_all (λ x. not (x == 10)) xs h)
+has_no_end xs h = without 10 xs h
 
 -- lines have at least as many bytes as there are lines
 pub lines_filled : (lines : List (List ℕ)) → All IsLine lines → length lines ≤ length (concat lines)

@@ -1,16 +1,18 @@
 -- What a run says of the whole source.
-use Rattle.std.proofs.Common.{◌≡◌, ℕ, List, length, Option, None, Some, IfSome}
-use Rattle.cs_types.specs.Stamp.{IsSecondOfFirstDay}
+use Rattle.std.proofs.Common.{◌≡◌, ℕ, List, length, Option, None, Some, IfSome, sym, subst}
 use Rattle.cs_types.specs.Change.{wanted_changes}
 use Rattle.cs_types.specs.declared.change.Change.{Change}
 use Rattle.cs_output.specs.Output.{IsComplete, IsTextOf}
-use Rattle.cs_tool.specs.Run.{OnTold, IsWhole, IsGoodScript, IsCompleteRun}
+use Rattle.cs_tool.specs.BadLine.{IsFirstBadLine, IsTooLong}
+use Rattle.cs_tool.specs.Run.{OnTold, IsWhole, IsBadScript, IsGoodScript, IsCompleteRun}
+use Rattle.cs_tool.specs.declared.status.LineCause.{LineCause}
+use Rattle.cs_tool.specs.declared.status.LineCause.TheVariants.{NotBuilt}
+use Rattle.cs_tool.specs.declared.status.Status.TheVariants.{BadScript}
 use Rattle.cs_tool.specs.Reading.{IsReplayed}
 use Rattle.cs_tool.specs.Script.{IsScript, changes_of}
 use Rattle.cs_tool.specs.Words.{IsCommand, start_of, end_of}
 use Rattle.cs_tool.specs.declared.script.Insert.{Insert}
 use Rattle.cs_tool.specs.declared.words.Command.{Command}
-use Rattle.cs_tool.specs.declared.words.Command.TheVariants.{Replay}
 
 pub good_of_read : (source : Option (List ℕ)) (start end : ℕ) (text : List ℕ) → IfSome source (λ bytes. IsReplayed start end bytes text) → IsGoodScript source
 good_of_read None start end text read = tt
@@ -26,5 +28,19 @@ ended_run words command source old new text are read written = (command, are, by
     by None read = tt
     by (Some bytes) read = (read.0, read.1, written (wanted_changes (start_of command) (end_of command) (changes_of read.0)) read.2)
 
-pub end_is_second : (words : List (List ℕ)) (command : Command) → IsCommand words command → IsSecondOfFirstDay (end_of command)
-end_is_second words (Replay script journal output stream start end) is = is.end_is
+pub bad_line : (source : Option (List ℕ)) (number : ℕ) → IfSome source (λ b. IsFirstBadLine b number) → (line : ℕ) (cause : Option LineCause)
+    → BadScript number (Some NotBuilt) ≡ BadScript line cause → IfSome source (IsBadScript line cause)
+bad_line source number bad line cause e =
+    let same : number ≡ line = cc in
+    let why : Some NotBuilt ≡ cause = cc in
+    subst (λ w. IfSome source (IsBadScript line w)) why (subst (λ n. IfSome source (λ b. IsFirstBadLine b n)) same bad)
+
+pub bad_long : (source : Option (List ℕ)) → IfSome source IsTooLong → (line : ℕ) (cause : Option LineCause) → BadScript 0 None ≡ BadScript line cause → IfSome source (IsBadScript line cause)
+bad_long source long line cause e =
+    let same : 0 ≡ line = cc in
+    let why : None ≡ cause = cc in
+    subst (λ w. IfSome source (IsBadScript line w)) why (by source long (sym same))
+  where
+    by : (source : Option (List ℕ)) → IfSome source IsTooLong → line ≡ 0 → IfSome source (IsBadScript line None)
+    by None long zero = tt
+    by (Some bytes) long zero = (zero, long)

@@ -11,7 +11,6 @@ use Rattle.std.proofs.lemmas.List.{get_or_append_left, length-append}
 use Rattle.std.proofs.Math.Seq.{get_or-append_seam}
 use Rattle.std.specs.Ordering.{nat_cmp}
 use Rattle.std.specs.Cmp.Lexicographic.{slice_cmp}
-use Rattle.cs_types.specs.Stamp.{first_day}
 use Rattle.cs_tool.specs.Reading.{Mirrors, Tracks, IsNext}
 use Rattle.cs_tool.specs.Script.{IsInsert, IsScript, changes_of}
 use Rattle.cs_types.specs.Change.{wanted_changes}

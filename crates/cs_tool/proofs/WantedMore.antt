@@ -3,8 +3,7 @@ use Rattle.std.proofs.Common.{◌≡◌, ℕ, Bool, true, false, cond, List, [],
 use Rattle.std.specs.Int.{is_in_range}
 use Rattle.cs_types.specs.Change.{wanted_changes}
 use Rattle.cs_types.specs.declared.change.Change.{Change}
-use Rattle.cs_output.specs.Line.{IsWritable}
-use Rattle.cs_tool.specs.Script.{change_of, changes_of, IsInsert}
+use Rattle.cs_tool.specs.Script.{change_of, changes_of}
 use Rattle.cs_tool.specs.declared.script.Insert.{Insert}
 
 abbrev wanted_of : ℕ → ℕ → List Insert → List Change
@@ -28,7 +27,3 @@ pub wanted_out : (start end : ℕ) (inserts : List Insert) (i : Insert) → is_i
     → wanted_of start end (inserts ++ i ∷ []) ≡ wanted_of start end inserts
 wanted_out start end inserts i outside =
     wanted_push start end inserts i ∙ ap (λ b. wanted_of start end inserts ++ cond b (change_of i ∷ []) []) outside ∙ append-nil _
-
--- the change of an insert has a line
-pub writable : (i : Insert) → IsInsert i → IsWritable (change_of i)
-writable i is = record { stamp = is.at; key = search rules; new = search rules; old = search rules }

@@ -5,7 +5,7 @@ use Rattle.std.specs.List.{AllPairs, concat}
 use Rattle.std.specs.Ordering.{nat_cmp}
 use Rattle.std.specs.Cmp.Lexicographic.{slice_cmp}
 use Rattle.std.specs.declared.cmp.Ordering.{Ordering}
-use Rattle.cs_types.specs.Stamp.{first_day}
+use Rattle.cs_tool.specs.Stamps.{first_stamp}
 use Rattle.cs_types.specs.Change.{wanted_changes}
 use Rattle.cs_output.specs.Output.{IsTextOf}
 use Rattle.cs_tool.specs.BadLine.{HasNoEnd, IsFirstBadLine, IsTooLong}
@@ -27,9 +27,9 @@ pub record Tracks (t : Taken) (inserts : List Insert) : Type 0 where
   pub in_order : AllPairs (λ i j. i.at ≤ j.at) inserts
   pub ids_differ : AllPairs (λ i j. i.id ≢ j.id) inserts
   pub keys_differ : AllPairs (λ i j. i.key ≢ j.key) inserts
-  -- the stamp of the last one, or the first day before it
+  -- the stamp of the last one, or the table's before it
   pub last_from : All (λ i. i.at ≤ t.last) inserts
-  pub last_is : (t.last ≡ first_day) ⊎ ((i : Insert) × Contains inserts i × (i.at ≡ t.last))
+  pub last_is : (t.last ≡ first_stamp) ⊎ ((i : Insert) × Contains inserts i × (i.at ≡ t.last))
   pub ids : Mirrors (slice_cmp nat_cmp) (λ i. i.id) t.ids inserts
   pub keys : Mirrors nat_cmp (λ i. i.key) t.keys inserts
   pub text : IsTextOf t.output (wanted_changes t.start t.end (changes_of inserts))

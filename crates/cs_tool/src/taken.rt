@@ -1,6 +1,7 @@
 // What is kept of the lines of a script that were taken.
 use crate::fields::is_same;
 use crate::script::Insert;
+use crate::stamps::FIRST_STAMP;
 use crate::wanted::add_wanted;
 use cs_output::OutputText;
 use cs_types::{Duplicate, Memory, Stamp, Text};
@@ -40,7 +41,7 @@ impl Taken {
         Taken {
             start,
             end,
-            last: Stamp::FIRST_DAY,
+            last: FIRST_STAMP,
             ids: BTreeSet::new(alloc),
             keys: BTreeSet::new(alloc),
             output: OutputText::new(alloc),

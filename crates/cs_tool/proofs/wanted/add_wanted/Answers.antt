@@ -1,7 +1,7 @@
 use Rattle.std.proofs.Common.{◌≡◌, true, false, sym, ◌∙◌, subst, OnOk}
 use Rattle.std.specs.Int.{is_in_range}
 use Rattle.cs_output.specs.Output.{IsTextOf}
-use Rattle.cs_tool.proofs.WantedMore.{wanted_in, wanted_out, writable}
+use Rattle.cs_tool.proofs.WantedMore.{wanted_in, wanted_out}
 use Rattle.cs_tool.proofs.wanted.add_wanted.Goals as goal
 
 pub returns-then-not-is_within : goal.returns-then-not-is_within
@@ -13,6 +13,3 @@ pub returns : goal.returns
 returns c = λ inserts is.
     let inside : is_in_range c.args.start c.args.end c.args.insert.now.at ≡ true = sym c.is_within.ensures ∙ c.if-not-is_within.false in
     rw (wanted_in c.args.start c.args.end inserts c.args.insert.now inside, ← c.in_ok-change.ensures) (c.add_change.ensures.more _ is)
-
-pub add_change-requires : goal.add_change-requires
-add_change-requires c = rw c.in_ok-change.ensures (writable c.args.insert.now c.requires)
