@@ -26,12 +26,16 @@ GOOD_OUTPUT = change() + watermark(WINDOW[1])
 REPLAY = ("replay", "SCRIPT", "journal", "output")
 START, END = WINDOW
 
-# no stamps of the one shape, or of another day
+# no stamps
 NO_STAMPS = (
     "", "now", "2024-05-01", "2024-05-01T00:00:00", "2024-05-01T00:00:60Z", "2024-05-01T00:60:00Z", "2024-05-01T24:00:00Z",
     "2024-05-01t00:00:00Z", "2024-05-01T00:00:00z", "2024-05-01 00:00:00Z", " 2024-05-01T00:00:00Z", "2024-05-01T0:00:00Z",
     "2024-05-01T00:00:0aZ", "2024-05-01T00:00:00+00:00", "--order",
+    "2024-02-30T00:00:00Z", "2024-05-01T00:00:01.Z", "2024-05-01T00:00:01.0000001Z", "0000-01-01T00:00:00Z", "10000-01-01T00:00:00Z",
 )
+
+# stamps before 2024-05-01T00:00:00Z
+EARLY = ("2024-04-30T23:59:59Z", "2024-04-30T23:59:59.999999Z", "1970-01-01T00:00:01Z")
 
 BAD_WORDS = [
     ((), 0),
@@ -54,6 +58,11 @@ BAD_WORDS = [
     ((*REPLAY, "S", "noon"), 5),
     *(((*REPLAY, "S", it, END), 5) for it in NO_STAMPS),
     *(((*REPLAY, "S", START, it), 6) for it in NO_STAMPS),
+    *(((*REPLAY, "S", it, END), 5) for it in EARLY),
+    *(((*REPLAY, "S", START, it), 6) for it in EARLY),
+    ((*REPLAY, "S", START, "2024-05-02T00:00:01.000001Z"), 6),
+    ((*REPLAY, "S", START, "2024-05-02T00:00:02Z"), 6),
+    ((*REPLAY, "S", "2024-05-01T00:00:01.000001Z", START), 6),
     ((*REPLAY, "S", END, START), 6),
     ((*REPLAY, "S", END, START, "x"), 6),
     ((*REPLAY, "S", START, END, "x"), 7),
@@ -65,6 +74,8 @@ BAD_WORDS = [
 def bad(line):
     return b"%d NotBuilt" % line
 
+
+MOST_BYTES = 67108864
 
 BAD_SCRIPTS = [
     ("empty", b"", bad(1)),
@@ -108,11 +119,32 @@ BAD_SCRIPTS = [
     ("a comment", PREAMBLE + b"# no\n", bad(3)),
     ("a long line", PREAMBLE + b"x" * 100000 + b"\n", bad(3)),
     ("a long first line", b"x" * 200000, bad(1)),
-    ("two inserts", PREAMBLE + insert() + insert(key=b"2", tx=b"t2"), bad(4)),
+    ("a fraction in a stamp", PREAMBLE + insert(at=b"2024-05-01T00:00:01.5Z"), bad(3)),
+    ("a fraction of zero in a stamp", PREAMBLE + insert(at=b"2024-05-01T00:00:01.0Z"), bad(3)),
+    ("a stamp before the table's", PREAMBLE + insert(at=b"2024-04-30T23:59:59Z"), bad(3)),
+    ("a day that no calendar has", PREAMBLE + insert(at=b"2025-02-29T00:00:00Z"), bad(3)),
+    ("an id twice", PREAMBLE + insert() + insert(key=b"2"), bad(4)),
+    ("a key twice", PREAMBLE + insert() + insert(tx=b"t2"), bad(4)),
+    ("a stamp that falls", PREAMBLE + insert(at=b"2024-05-01T00:00:02Z") + insert(key=b"2", tx=b"t2"), bad(4)),
+    ("an id twice, far apart", PREAMBLE + b"".join(insert(key=b"%d" % k, tx=b"t%d" % k) for k in range(3000)) + insert(key=b"9999", tx=b"t1"), bad(3003)),
     ("a line behind the insert", PREAMBLE + insert() + b"\n", bad(4)),
     ("a byte behind the insert", PREAMBLE + insert() + b"x", bad(4)),
     ("much behind the insert", PREAMBLE + insert() + b"x\n" * 70000, bad(4)),
+    ("a bad line, and another", PREAMBLE + insert() + b"x\n" + b"y\n", bad(4)),
+    ("the longest, with a line that is cut", PREAMBLE + b"x" * (MOST_BYTES - len(PREAMBLE)), bad(3)),
+    ("the longest, with a line that is wrong", PREAMBLE + b"x" * (MOST_BYTES - len(PREAMBLE) - 1) + b"\n", bad(3)),
+    ("a line that ends one byte too late", PREAMBLE + b"x" * (MOST_BYTES - len(PREAMBLE)) + b"\n", b"0 TooLong"),
+    ("a bad line before too many bytes", PREAMBLE + b"x\n" + b"x" * MOST_BYTES, bad(3)),
 ]
+
+
+def many(commits):
+    """A script with a window from its second third, and its output."""
+    stamps = [b"2024-05-01T%02d:%02d:%02dZ" % (k // 2 // 3600, k // 2 // 60 % 60, k // 2 % 60) for k in range(commits)]
+    script = PREAMBLE + b"".join(insert(b"%d" % k, stamps[k], b"t%d" % k, b"%d" % (k * k), b"n%d" % k) for k in range(commits))
+    start, end = stamps[commits // 3].decode(), stamps[2 * commits // 3].decode()
+    wanted = [k for k in range(commits) if start.encode() <= stamps[k] <= end.encode()]
+    return script, (start, end), b"".join(change(b"%d" % k, stamps[k], b"t%d" % k, b"%d" % (k * k), b"n%d" % k) for k in wanted) + watermark(end)
 
 GOOD_SCRIPTS = [
     ("without a commit", PREAMBLE, ("2024-05-01T00:00:10Z", "2024-05-01T00:00:20Z"), watermark("2024-05-01T00:00:20Z")),
@@ -127,5 +159,19 @@ GOOD_SCRIPTS = [
         ("2024-05-01T23:59:59Z", "2024-05-01T23:59:59Z"),
         change(key=b"9" * 18, tx=b"Z" * 64, a=b"9" * 18, b=b"~" * 64, at=b"2024-05-01T23:59:59Z") + watermark("2024-05-01T23:59:59Z"),
     ),
+    (
+        "with two inserts of one stamp",
+        PREAMBLE + insert() + insert(key=b"2", tx=b"t2"),
+        WINDOW,
+        change() + change(key=b"2", tx=b"t2") + watermark(END),
+    ),
+    (
+        "of other days",
+        PREAMBLE + insert(at=b"2024-05-01T00:00:00Z") + insert(key=b"2", tx=b"t2", at=b"2025-02-28T12:00:00Z") + insert(key=b"3", tx=b"t3", at=b"9999-12-31T23:59:59Z"),
+        ("2025-02-28T11:59:59.9Z", "2025-03-01T11:59:59.900000Z"),
+        change(key=b"2", tx=b"t2", at=b"2025-02-28T12:00:00Z") + watermark("2025-03-01T11:59:59.900000Z"),
+    ),
+    ("with a window that ends within a second", GOOD_SCRIPT, ("2024-05-01T00:00:01.000001Z", "2024-05-02T00:00:01.000001Z"), watermark("2024-05-02T00:00:01.000001Z")),
+    ("of 10,000 commits", *many(10000)),
     ("with a text of signs", PREAMBLE + insert(b=b" !#$%&'()*+,-./:;<=>?@[]^_`{|}~"), WINDOW, change(b=b" !#$%&'()*+,-./:;<=>?@[]^_`{|}~") + watermark(END)),
 ]

@@ -15,13 +15,13 @@ usage:
 
 replay reads the script, and writes a line for each change with START <= stamp <= END
 to the output, in commit order, and then a watermark line for END.
-  SCRIPT   a file to read: the two lines of the table T and the stream S, and at most one
-           line of a commit that inserts a row (docs/FORMATS.md has the form)
+  SCRIPT   a file to read, at most 67,108,864 bytes: the two lines of the table T and the
+           stream S, and a line for each commit that inserts a row (docs/FORMATS.md has the form)
   JOURNAL  a file, made where it is absent; it stays as it is
   OUTPUT   a file, made where it is absent; it must be empty
   STREAM   S
-  START    a second of the first day of May 2024, as 2024-05-01T00:00:01Z
-  END      the same, not below START
+  START    a stamp from 2024-05-01T00:00:00Z on, with up to six digits of a second's fraction
+  END      a stamp from START to 86,400 seconds behind it
 
 There are no options. The last line on standard output has the status and its name:
    0 Ended           the output is complete
@@ -29,7 +29,8 @@ There are no options. The last line on standard output has the status and its na
   42 SourceFault     a read of the script failed
   43 ConsoleFault    the write to standard output failed (no line)
   50 BadWords N      word N, counted from 0 behind the program's name, is missing, wrong or one too many
-  51 BadScript N C   line N of the script, counted from 1, is the first that breaks the form
+  51 BadScript N C   line N of the script, counted from 1, is the first that breaks the form (NotBuilt);
+                     0 TooLong: the script has more bytes than it may
   55 OutputNotEmpty N  the output has N bytes already; it stays as it is
   60 Memory          memory was wanting
   70                 a file cannot be opened (no line)

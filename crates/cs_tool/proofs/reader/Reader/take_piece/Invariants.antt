@@ -1,0 +1,12 @@
+use Rattle.std.proofs.Common.{◌≡◌, ◌≤◌, ◌++◌, List, ℕ, length, take}
+use Rattle.cs_tool.specs.Reading.{HasGiven}
+use Rattle.cs_tool.specs.Script.{most_bytes}
+use Rattle.cs_tool.proofs.reader.Reader.take_piece.Given as goal
+
+abbrev pub invariant-loop-b : goal.invariant-loop-b
+invariant-loop-b l =
+    record {
+      given : (before : List ℕ) → HasGiven l.initial.self before → length (before ++ l.piece) ≤ most_bytes → HasGiven l.self (before ++ take l.b-index l.piece);
+      start : l.self.taken.start ≡ l.initial.self.taken.start;
+      end : l.self.taken.end ≡ l.initial.self.taken.end;
+    }
