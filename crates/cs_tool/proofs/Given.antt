@@ -1,8 +1,8 @@
--- What a reader has after one byte more, and at the end.
+-- What a reader has after more bytes of a line, after its end, and at the end of all.
 use Rattle.std.proofs.Common.{◌≡◌, ◌≢◌, ◌<◌, ◌≤◌, ◌+◌, ◌-◌, ℕ, zero, suc, List, [], ◌∷◌, ◌++◌, length, All, map, refl, sym, ap, subst, ◌∙◌, append_assoc, append-nil, arith, inl, inr}
 use Rattle.std.specs.List.{AllPairs, concat}
 use Rattle.std.proofs.lemmas.List.{append_cancel_left, length-append}
-use Rattle.std.proofs.lemmas.List.Elements.{All-nil, All-push}
+use Rattle.std.proofs.lemmas.List.Elements.{All-nil, All-append}
 use Rattle.std.proofs.lemmas.List.Folds.{concat-append}
 use Rattle.cs_types.specs.Change.{wanted_changes}
 use Rattle.cs_output.specs.Output.{IsTextOf}
@@ -85,13 +85,13 @@ module _ (old : Reader) (inserts : List Insert) (given : List ℕ) (r : IsReadin
   good_lines : length given ≤ most_bytes → BeginsScript (concat (lines_of old.lines inserts))
   good_lines short = good_front old.lines inserts old.taken r.tracks (omega (arith, length-given, short))
 
-  -- a byte that is no end
-  pub byte_given : (new : Reader) (b : ℕ) → b ≢ 10 → new.lines ≡ old.lines → new.taken ≡ old.taken → new.line.items ≡ old.line.items ++ b ∷ [] → HasGiven new (given ++ b ∷ [])
-  byte_given new b no_end lines taken line = (
+  -- bytes of which none is an end
+  pub front_given : (new : Reader) (front : List ℕ) → HasNoEnd front → new.lines ≡ old.lines → new.taken ≡ old.taken → new.line.items ≡ old.line.items ++ front → HasGiven new (given ++ front)
+  front_given new front no_end lines taken line = (
     inserts,
     record {
-      parts = rw (lines, line) (ap (λ l. l ++ b ∷ []) r.parts ∙ append_assoc (concat (lines_of old.lines inserts)) old.line.items (b ∷ []));
-      no_end = rw line (All-push (λ x. x ≢ 10) old.line.items b r.no_end no_end);
+      parts = rw (lines, line) (ap (λ l. l ++ front) r.parts ∙ append_assoc (concat (lines_of old.lines inserts)) old.line.items front);
+      no_end = rw line (All-append (λ x. x ≢ 10) old.line.items front r.no_end no_end);
       tracks = subst (λ t. Tracks t inserts) (sym taken) r.tracks;
       counted = rw lines r.counted;
     },

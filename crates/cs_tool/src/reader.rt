@@ -1,4 +1,5 @@
 // The lines of a script, as its bytes come.
+use crate::fields::place_of;
 use crate::taken::Taken;
 use cs_output::OutputText;
 use cs_types::{Memory, Stamp};
@@ -61,9 +62,9 @@ pub(crate) struct Reader {
 }
 
 impl Reader {
-    ghost use Rattle.std.specs.Prelude.{◌≡◌, ◌≢◌, ◌∷◌, ◌++◌, ◌≤◌, [], List, ℕ, length, IfOk, IfErr, OnOk};
+    ghost use Rattle.std.specs.Prelude.{◌≡◌, ◌≢◌, ◌∷◌, ◌++◌, ◌≤◌, ◌<◌, [], List, ℕ, length, take, IfOk, IfErr, OnOk};
     ghost use Rattle.cs_tool.specs.Reading.{HasGiven, IsScriptFault, IsReplayed};
-    ghost use Rattle.cs_tool.specs.BadLine.{IsFirstBadLine};
+    ghost use Rattle.cs_tool.specs.BadLine.{IsFirstBadLine, HasNoEnd};
     ghost use Rattle.cs_tool.specs.Script.{most_bytes};
 
     /// Of no bytes.
@@ -85,26 +86,61 @@ impl Reader {
         ensures own { IfErr result (λ e. e ≢ ScriptFault.Failed) }
         ensures window { (self.new.taken.start ≡ self.old.taken.start) × (self.new.taken.end ≡ self.old.taken.end) }
     {
-        for b in piece {
-            match self.take_byte(alloc, *b) {
-                Ok(()) => (),
+        let mut at = 0;
+        'parts: while at < piece.len() {
+            match self.take_part(alloc, &piece[at..]) {
+                Ok(count) => at += count,
                 Err(fault) => return Err(fault),
             }
         }
         Ok(())
     }
 
-    /// Takes the next byte, and the line where it is its end.
-    fn take_byte(&mut self, alloc: Global, b: u8) -> Result<(), ScriptFault>
-        ensures given { (before : List ℕ) → HasGiven self.old before → length (before ++ b ∷ []) ≤ most_bytes → OnOk result (HasGiven self.new (before ++ b ∷ [])) }
-        ensures refused { (before rest : List ℕ) → HasGiven self.old before → length (before ++ b ∷ []) ≤ most_bytes → IfErr result (IsScriptFault ((before ++ b ∷ []) ++ rest)) }
+    /// Takes the bytes up to the first line's end, and the line, or all of them where there is no
+    /// end; answers how many bytes that were.
+    fn take_part(&mut self, alloc: Global, piece: &[u8]) -> Result<usize, ScriptFault>
+        requires filled { 0 < length piece.now }
+        ensures count { IfOk result (λ n. (0 < n) × (n ≤ length piece.now)) }
+        ensures given { (before : List ℕ) → HasGiven self.old before → length (before ++ piece.now) ≤ most_bytes → IfOk result (λ n. HasGiven self.new (before ++ take n piece.now)) }
+        ensures refused { (before rest : List ℕ) → HasGiven self.old before → length (before ++ piece.now) ≤ most_bytes → IfErr result (IsScriptFault ((before ++ piece.now) ++ rest)) }
         ensures own { IfErr result (λ e. e ≢ ScriptFault.Failed) }
         ensures window { (self.new.taken.start ≡ self.old.taken.start) × (self.new.taken.end ≡ self.old.taken.end) }
     {
-        self.line.push(b)?;
-        if b != LINE_END {
-            return Ok(());
+        let Some(end) = place_of(LINE_END, piece) else {
+            return match self.take_front(piece) {
+                Ok(()) => Ok(piece.len()),
+                Err(fault) => Err(fault),
+            };
+        };
+        match self.take_front(&piece[..end]) {
+            Ok(()) => (),
+            Err(fault) => return Err(fault),
         }
+        match self.take_end(alloc) {
+            Ok(()) => Ok(end + 1),
+            Err(fault) => Err(fault),
+        }
+    }
+
+    /// Takes bytes of a line, none of them its end.
+    fn take_front(&mut self, front: &[u8]) -> Result<(), ScriptFault>
+        requires { HasNoEnd front.now }
+        ensures given { (before : List ℕ) → HasGiven self.old before → OnOk result (HasGiven self.new (before ++ front.now)) }
+        ensures refused { IfErr result (λ e. e ≡ ScriptFault.Memory) }
+        ensures window { (self.new.taken.start ≡ self.old.taken.start) × (self.new.taken.end ≡ self.old.taken.end) }
+    {
+        self.line.extend_from_slice(front)?;
+        Ok(())
+    }
+
+    /// Takes the end of a line, and the line.
+    fn take_end(&mut self, alloc: Global) -> Result<(), ScriptFault>
+        ensures given { (before : List ℕ) → HasGiven self.old before → length (before ++ 10 ∷ []) ≤ most_bytes → OnOk result (HasGiven self.new (before ++ 10 ∷ [])) }
+        ensures refused { (before rest : List ℕ) → HasGiven self.old before → length (before ++ 10 ∷ []) ≤ most_bytes → IfErr result (IsScriptFault ((before ++ 10 ∷ []) ++ rest)) }
+        ensures own { IfErr result (λ e. e ≢ ScriptFault.Failed) }
+        ensures window { (self.new.taken.start ≡ self.old.taken.start) × (self.new.taken.end ≡ self.old.taken.end) }
+    {
+        self.line.push(LINE_END)?;
         let good = self.taken.take_line(alloc, self.lines, &self.line)?;
         self.lines = self.lines.saturating_add(1);
         self.line.clear();

@@ -1,22 +1,28 @@
-use Rattle.std.proofs.Common.{◌∙◌, ◌++◌, ◌+◌, ap, sym, subst, drop, take, List, ℕ}
-use Rattle.cs_tool.specs.Script.{most_bytes}
+use Rattle.std.proofs.Common.{◌≤◌, ◌+◌, ◌-◌, ◌∙◌, ◌++◌, List, ℕ, length, take, drop, sym, subst, arith, length-drop}
 use Rattle.cs_tool.specs.Reading.{HasGiven, IsScriptFault}
-use Rattle.cs_tool.proofs.Pieces.{piece_more, piece_short, piece_rest}
+use Rattle.cs_tool.specs.Script.{most_bytes}
+use Rattle.cs_tool.proofs.Pieces.{piece_more, piece_whole}
 use Rattle.cs_tool.proofs.reader.Reader.take_piece.Goals as goal
+
+-- what is left, behind what was taken, is no longer than all
+left_short : (before piece : List ℕ) (i : ℕ) → length (before ++ piece) ≤ most_bytes → length ((before ++ take i piece) ++ take (length piece - i) (drop i piece)) ≤ most_bytes
+left_short before piece i short = subst (λ (l : List ℕ). length l ≤ most_bytes) (sym (piece_whole before piece i)) short
+
+pub parts-preserved : goal.parts-preserved
+parts-preserved c = record {
+  given = λ before given short.
+      let piece = c.args.piece.now in
+      let at = c.parts.at in
+      subst (λ (l : List ℕ). HasGiven c.take_part.new.self l) (piece_more before piece at c.in-Ok.count)
+      (c.in-Ok.ensures.given (before ++ take at piece) (c.parts.invariant.given before given short) (left_short before piece at short));
+  start = c.in-Ok.ensures.window.0 ∙ c.parts.invariant.start;
+  end = c.in-Ok.ensures.window.1 ∙ c.parts.invariant.end;
+  at = omega (arith, c.in-Ok.ensures.count, length-drop c.parts.at c.args.piece.now, c.parts-test.true);
+}
 
 pub returns-in-Err-clause-refused : goal.returns-in-Err-clause-refused
 returns-in-Err-clause-refused c = λ before rest given short.
-    let so_far = c.loop-b.invariant.given before given short in
-    let fault = c.in-Err.ensures.refused (before ++ take c.loop-b.b-index c.args.piece.now) (drop (c.loop-b.b-index + 1) c.args.piece.now ++ rest) so_far
-    (piece_short before c.args.piece.now c.loop-b.b-index most_bytes c.loop-b-test.true short) in
-    subst (λ (l : List ℕ). IsScriptFault l c.in-Err.fault) (piece_rest before c.args.piece.now rest c.loop-b.b-index c.loop-b-test.true) fault
-
-pub loop-b-preserved : goal.loop-b-preserved
-loop-b-preserved c = record {
-  given = λ before given short.
-      subst (λ (l : List ℕ). HasGiven c.take_byte.new.self l) (piece_more before c.args.piece.now c.loop-b.b-index c.loop-b-test.true)
-      (c.in-Ok.ensures.given (before ++ take c.loop-b.b-index c.args.piece.now) (c.loop-b.invariant.given before given short)
-      (piece_short before c.args.piece.now c.loop-b.b-index most_bytes c.loop-b-test.true short));
-  start = c.in-Ok.ensures.window.0 ∙ c.loop-b.invariant.start;
-  end = c.in-Ok.ensures.window.1 ∙ c.loop-b.invariant.end;
-}
+    let piece = c.args.piece.now in
+    let at = c.parts.at in
+    subst (λ (l : List ℕ). IsScriptFault (l ++ rest) c.in-Err.fault) (piece_whole before piece at)
+    (c.in-Err.ensures.refused (before ++ take at piece) rest (c.parts.invariant.given before given short) (left_short before piece at short))
