@@ -1,0 +1,272 @@
+ghost use Rattle.std.specs.Prelude.{◌≡◌, MatchResult, None, Some, option_copied, length};
+ghost use Rattle.std.specs.Fmt.{is_char_start};
+ghost use Rattle.cs_txn.specs.Columns.{column_named, char_length, is_within, is_of, fits, first_cell, value_fault, unset, unset_by, is_due, bad_value, key_cell, key_set, no_such, no_key, key_without, no_column, bad_fault, key_fault, table_fault, column_fault};
+ghost use Rattle.cs_txn.specs.Faults.{not_memory, first_of};
+
+use crate::left::{among, find, same};
+use crate::{TxnFault, Write};
+use cs_schema::{Column, Table, Tables};
+use cs_types::{Cell, ColumnType, Duplicate, Kind, Text, Value};
+
+fn column_at<'a>(name: &Text, columns: &'a [Column]) -> Option<&'a Column>
+    ensures { option_copied result ≡ column_named name.now columns.now }
+{
+    for column in columns {
+        if same(&column.name, name) {
+            return Some(column);
+        }
+    }
+    None
+}
+
+/// Whether a byte of UTF-8 is the first of a character.
+fn starts(byte: u8) -> bool
+    ensures { result ≡ is_char_start byte }
+{
+    byte < 0x80 || byte >= 0xC0
+}
+
+/// How many characters a text has.
+fn characters(text: &Text) -> usize
+    ensures { result ≡ char_length text.now }
+{
+    let mut count = 0;
+    for byte in text.as_str().as_bytes() {
+        if starts(*byte) {
+            count += 1;
+        }
+    }
+    count
+}
+
+fn within(limit: Option<u32>, length: usize) -> bool
+    ensures { result ≡ is_within limit length }
+{
+    match limit {
+        None => true,
+        Some(limit) => length as u64 <= limit as u64,
+    }
+}
+
+fn of_type(column: &Column, value: &Value) -> bool
+    ensures { result ≡ is_of column.now.ty column.now.limit value.now }
+{
+    match column.ty {
+        ColumnType::Bool => matches!(value, Value::Bool(_)),
+        ColumnType::Int64 => matches!(value, Value::Int64(_)),
+        ColumnType::Numeric => matches!(value, Value::Numeric(_)),
+        ColumnType::Text => match value {
+            Value::Text(text) => within(column.limit, characters(text)),
+            _ => false,
+        },
+        ColumnType::Bytes => match value {
+            Value::Bytes(bytes) => within(column.limit, bytes.as_slice().len()),
+            _ => false,
+        },
+        ColumnType::Date => matches!(value, Value::Date(_)),
+        ColumnType::Timestamp => matches!(value, Value::Timestamp(_)),
+    }
+}
+
+/// Whether a value may stand in a column.
+fn may_stand(column: &Column, value: &Value) -> bool
+    ensures { result ≡ fits column.now value.now }
+{
+    match value {
+        Value::Null => !column.not_null,
+        _ => of_type(column, value),
+    }
+}
+
+fn value(columns: &[Column], cell: &Cell) -> Result<(), TxnFault>
+    ensures { MatchResult result (λ _. value_fault columns.now cell.now ≡ None) (λ e. not_memory e → value_fault columns.now cell.now ≡ Some e) }
+{
+    if let Some(column) = column_at(&cell.column, columns) {
+        if !may_stand(column, &cell.value) {
+            return Err(TxnFault::BadValue(cell.column.copy()?));
+        }
+    }
+    Ok(())
+}
+
+fn values(columns: &[Column], cells: &[Cell]) -> Result<(), TxnFault>
+    ensures { MatchResult result (λ _. first_cell (value_fault columns.now) cells.now ≡ None) (λ e. not_memory e → first_cell (value_fault columns.now) cells.now ≡ Some e) }
+{
+    for cell in cells {
+        value(columns, cell)?;
+    }
+    Ok(())
+}
+
+/// Whether a column may not stay without a value.
+fn is_needed(column: &Column, key: &[Text], set: &[Cell]) -> bool
+    ensures { result ≡ is_due column.now key.now set.now }
+{
+    if !column.not_null {
+        return false;
+    }
+    if among(&column.name, key) {
+        return false;
+    }
+    match find(&column.name, set) {
+        Some(_) => false,
+        None => true,
+    }
+}
+
+fn all_set(key: &[Text], set: &[Cell], columns: &[Column]) -> Result<(), TxnFault>
+    ensures { MatchResult result (λ _. unset key.now set.now columns.now ≡ None) (λ e. not_memory e → unset key.now set.now columns.now ≡ Some e) }
+{
+    for column in columns {
+        if is_needed(column, key, set) {
+            return Err(TxnFault::BadValue(column.name.copy()?));
+        }
+    }
+    Ok(())
+}
+
+fn all_set_by(kind: Kind, table: &Table, set: &[Cell]) -> Result<(), TxnFault>
+    ensures { MatchResult result (λ _. unset_by kind table.now set.now ≡ None) (λ e. not_memory e → unset_by kind table.now set.now ≡ Some e) }
+{
+    match kind {
+        Kind::Insert => all_set(table.key.as_slice(), set, table.columns.as_slice()),
+        _ => Ok(()),
+    }
+}
+
+fn write_values(table: &Table, write: &Write) -> Result<(), TxnFault>
+    ensures { MatchResult result (λ _. bad_value table.now write.now ≡ None) (λ e. not_memory e → bad_value table.now write.now ≡ Some e) }
+{
+    let columns = table.columns.as_slice();
+    values(columns, write.row.key.items())?;
+    values(columns, write.set.items())?;
+    all_set_by(write.kind, table, write.set.items())
+}
+
+fn no_key_set(key: &[Text], set: &[Cell]) -> Result<(), TxnFault>
+    ensures { MatchResult result (λ _. first_cell (key_cell key.now) set.now ≡ None) (λ e. not_memory e → first_cell (key_cell key.now) set.now ≡ Some e) }
+{
+    for cell in set {
+        if among(&cell.column, key) {
+            return Err(TxnFault::KeyColumnSet(cell.column.copy()?));
+        }
+    }
+    Ok(())
+}
+
+fn all_columns(columns: &[Column], set: &[Cell]) -> Result<(), TxnFault>
+    ensures { MatchResult result (λ _. first_cell (no_such columns.now) set.now ≡ None) (λ e. not_memory e → first_cell (no_such columns.now) set.now ≡ Some e) }
+{
+    for cell in set {
+        let Some(_) = column_at(&cell.column, columns) else {
+            return Err(TxnFault::NoColumn(cell.column.copy()?));
+        };
+    }
+    Ok(())
+}
+
+fn all_of_key(key: &[Text], cells: &[Cell]) -> Result<(), TxnFault>
+    ensures { MatchResult result (λ _. first_cell (no_key key.now) cells.now ≡ None) (λ e. not_memory e → first_cell (no_key key.now) cells.now ≡ Some e) }
+{
+    for cell in cells {
+        if !among(&cell.column, key) {
+            return Err(TxnFault::NoColumn(cell.column.copy()?));
+        }
+    }
+    Ok(())
+}
+
+fn whole_key(cells: &[Cell], key: &[Text]) -> Result<(), TxnFault>
+    ensures { MatchResult result (λ _. key_without cells.now key.now ≡ None) (λ e. not_memory e → key_without cells.now key.now ≡ Some e) }
+{
+    for name in key {
+        let Some(_) = find(name, cells) else {
+            return Err(TxnFault::NoColumn(name.copy()?));
+        };
+    }
+    Ok(())
+}
+
+fn write_columns(table: &Table, write: &Write) -> Result<(), TxnFault>
+    ensures { MatchResult result (λ _. no_column table.now write.now ≡ None) (λ e. not_memory e → no_column table.now write.now ≡ Some e) }
+{
+    all_columns(table.columns.as_slice(), write.set.items())?;
+    all_of_key(table.key.as_slice(), write.row.key.items())?;
+    whole_key(write.row.key.items(), table.key.as_slice())
+}
+
+fn bad(tables: &Tables, write: &Write) -> Result<(), TxnFault>
+    ensures { MatchResult result (λ _. bad_fault tables.now write.now ≡ None) (λ e. not_memory e → bad_fault tables.now write.now ≡ Some e) }
+{
+    match tables.find(&write.row.table) {
+        Some(table) => write_values(table, write),
+        None => Ok(()),
+    }
+}
+
+fn key(tables: &Tables, write: &Write) -> Result<(), TxnFault>
+    ensures { MatchResult result (λ _. key_fault tables.now write.now ≡ None) (λ e. not_memory e → key_fault tables.now write.now ≡ Some e) }
+{
+    match tables.find(&write.row.table) {
+        Some(table) => no_key_set(table.key.as_slice(), write.set.items()),
+        None => Ok(()),
+    }
+}
+
+fn there(tables: &Tables, write: &Write) -> Result<(), TxnFault>
+    ensures { MatchResult result (λ _. table_fault tables.now write.now ≡ None) (λ e. not_memory e → table_fault tables.now write.now ≡ Some e) }
+{
+    match tables.find(&write.row.table) {
+        Some(_) => Ok(()),
+        None => Err(TxnFault::NoTable(write.row.table.copy()?)),
+    }
+}
+
+fn columns(tables: &Tables, write: &Write) -> Result<(), TxnFault>
+    ensures { MatchResult result (λ _. column_fault tables.now write.now ≡ None) (λ e. not_memory e → column_fault tables.now write.now ≡ Some e) }
+{
+    match tables.find(&write.row.table) {
+        Some(table) => write_columns(table, write),
+        None => Ok(()),
+    }
+}
+
+/// Whether all values may stand in their columns.
+pub(crate) fn all_good(tables: &Tables, writes: &[Write]) -> Result<(), TxnFault>
+    ensures { MatchResult result (λ _. first_of (bad_fault tables.now) writes.now ≡ None) (λ e. not_memory e → first_of (bad_fault tables.now) writes.now ≡ Some e) }
+{
+    for write in writes {
+        bad(tables, write)?;
+    }
+    Ok(())
+}
+
+/// Whether no key column is set.
+pub(crate) fn no_keys(tables: &Tables, writes: &[Write]) -> Result<(), TxnFault>
+    ensures { MatchResult result (λ _. first_of (key_fault tables.now) writes.now ≡ None) (λ e. not_memory e → first_of (key_fault tables.now) writes.now ≡ Some e) }
+{
+    for write in writes {
+        key(tables, write)?;
+    }
+    Ok(())
+}
+
+/// Whether all tables are there.
+pub(crate) fn all_tables(tables: &Tables, writes: &[Write]) -> Result<(), TxnFault>
+    ensures { MatchResult result (λ _. first_of (table_fault tables.now) writes.now ≡ None) (λ e. not_memory e → first_of (table_fault tables.now) writes.now ≡ Some e) }
+{
+    for write in writes {
+        there(tables, write)?;
+    }
+    Ok(())
+}
+
+/// Whether all columns are there, and the rows have their tables' key columns.
+pub(crate) fn all_named(tables: &Tables, writes: &[Write]) -> Result<(), TxnFault>
+    ensures { MatchResult result (λ _. first_of (column_fault tables.now) writes.now ≡ None) (λ e. not_memory e → first_of (column_fault tables.now) writes.now ≡ Some e) }
+{
+    for write in writes {
+        columns(tables, write)?;
+    }
+    Ok(())
+}
