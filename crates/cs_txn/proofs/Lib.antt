@@ -1,6 +1,8 @@
 pub mod Adding
+pub mod Finding
 pub mod Kept
 pub mod Leaves
+pub mod Lengths
 pub mod Places
 pub mod Sound
 pub mod Steps

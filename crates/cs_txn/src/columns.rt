@@ -1,23 +1,15 @@
-ghost use Rattle.std.specs.Prelude.{◌≡◌, MatchResult, None, Some, option_copied, length};
+ghost use Rattle.std.specs.Prelude.{◌≡◌, MatchResult, None, Some, length};
 ghost use Rattle.std.specs.Fmt.{is_char_start};
-ghost use Rattle.cs_txn.specs.Columns.{column_named, char_length, is_within, is_of, fits, first_cell, value_fault, unset, unset_by, is_due, bad_value, key_cell, key_set, no_such, no_key, key_without, no_column, bad_fault, key_fault, table_fault, column_fault};
+ghost use Rattle.cs_txn.specs.Columns.{char_length, is_within, is_of, fits, first_cell, value_fault, unset, unset_by, is_due, bad_value, key_cell, key_set, no_such, no_key, key_without, no_column, bad_fault, key_fault, table_fault, column_fault};
 ghost use Rattle.cs_txn.specs.Faults.{not_memory, first_of};
+ghost use Rattle.cs_txn.specs.Finding.{IsLookup};
 
-use crate::left::{among, find, same};
+use crate::finding::{column_of, find, is_key, lookup_of};
+use crate::lookup::Lookup;
 use crate::{TxnFault, Write};
 use cs_schema::{Column, Table, Tables};
-use cs_types::{Cell, ColumnType, Duplicate, Kind, Text, Value};
-
-fn column_at<'a>(name: &Text, columns: &'a [Column]) -> Option<&'a Column>
-    ensures { option_copied result ≡ column_named name.now columns.now }
-{
-    for column in columns {
-        if same(&column.name, name) {
-            return Some(column);
-        }
-    }
-    None
-}
+use cs_types::{Cell, Cells, ColumnType, Duplicate, Kind, Text, Value};
+use std::alloc::Global;
 
 /// Whether a byte of UTF-8 is the first of a character.
 fn starts(byte: u8) -> bool
@@ -78,10 +70,11 @@ fn may_stand(column: &Column, value: &Value) -> bool
     }
 }
 
-fn value(columns: &[Column], cell: &Cell) -> Result<(), TxnFault>
-    ensures { MatchResult result (λ _. value_fault columns.now cell.now ≡ None) (λ e. not_memory e → value_fault columns.now cell.now ≡ Some e) }
+fn value(table: &Table, lookup: &Lookup, cell: &Cell) -> Result<(), TxnFault>
+    requires { IsLookup table.now lookup.now }
+    ensures { MatchResult result (λ _. value_fault table.now.columns cell.now ≡ None) (λ e. not_memory e → value_fault table.now.columns cell.now ≡ Some e) }
 {
-    if let Some(column) = column_at(&cell.column, columns) {
+    if let Some(column) = column_of(table, lookup, &cell.column) {
         if !may_stand(column, &cell.value) {
             return Err(TxnFault::BadValue(cell.column.copy()?));
         }
@@ -89,23 +82,25 @@ fn value(columns: &[Column], cell: &Cell) -> Result<(), TxnFault>
     Ok(())
 }
 
-fn values(columns: &[Column], cells: &[Cell]) -> Result<(), TxnFault>
-    ensures { MatchResult result (λ _. first_cell (value_fault columns.now) cells.now ≡ None) (λ e. not_memory e → first_cell (value_fault columns.now) cells.now ≡ Some e) }
+fn values(table: &Table, lookup: &Lookup, cells: &[Cell]) -> Result<(), TxnFault>
+    requires { IsLookup table.now lookup.now }
+    ensures { MatchResult result (λ _. first_cell (value_fault table.now.columns) cells.now ≡ None) (λ e. not_memory e → first_cell (value_fault table.now.columns) cells.now ≡ Some e) }
 {
     for cell in cells {
-        value(columns, cell)?;
+        value(table, lookup, cell)?;
     }
     Ok(())
 }
 
 /// Whether a column may not stay without a value.
-fn is_needed(column: &Column, key: &[Text], set: &[Cell]) -> bool
-    ensures { result ≡ is_due column.now key.now set.now }
+fn is_needed(table: &Table, lookup: &Lookup, column: &Column, set: &Cells) -> bool
+    requires { IsLookup table.now lookup.now }
+    ensures { result ≡ is_due column.now table.now.key set.now }
 {
     if !column.not_null {
         return false;
     }
-    if among(&column.name, key) {
+    if is_key(table, lookup, &column.name) {
         return false;
     }
     match find(&column.name, set) {
@@ -114,69 +109,81 @@ fn is_needed(column: &Column, key: &[Text], set: &[Cell]) -> bool
     }
 }
 
-fn all_set(key: &[Text], set: &[Cell], columns: &[Column]) -> Result<(), TxnFault>
-    ensures { MatchResult result (λ _. unset key.now set.now columns.now ≡ None) (λ e. not_memory e → unset key.now set.now columns.now ≡ Some e) }
+fn all_set(table: &Table, lookup: &Lookup, set: &Cells) -> Result<(), TxnFault>
+    requires { IsLookup table.now lookup.now }
+    ensures { MatchResult result (λ _. unset table.now.key set.now table.now.columns ≡ None) (λ e. not_memory e → unset table.now.key set.now table.now.columns ≡ Some e) }
 {
-    for column in columns {
-        if is_needed(column, key, set) {
+    for column in table.columns.as_slice() {
+        if is_needed(table, lookup, column, set) {
             return Err(TxnFault::BadValue(column.name.copy()?));
         }
     }
     Ok(())
 }
 
-fn all_set_by(kind: Kind, table: &Table, set: &[Cell]) -> Result<(), TxnFault>
+fn all_set_by(kind: Kind, table: &Table, lookup: &Lookup, set: &Cells) -> Result<(), TxnFault>
+    requires { IsLookup table.now lookup.now }
     ensures { MatchResult result (λ _. unset_by kind table.now set.now ≡ None) (λ e. not_memory e → unset_by kind table.now set.now ≡ Some e) }
 {
     match kind {
-        Kind::Insert => all_set(table.key.as_slice(), set, table.columns.as_slice()),
+        Kind::Insert => all_set(table, lookup, set),
         _ => Ok(()),
     }
 }
 
-fn write_values(table: &Table, write: &Write) -> Result<(), TxnFault>
+fn write_values(alloc: Global, table: &Table, write: &Write) -> Result<(), TxnFault>
     ensures { MatchResult result (λ _. bad_value table.now write.now ≡ None) (λ e. not_memory e → bad_value table.now write.now ≡ Some e) }
 {
-    let columns = table.columns.as_slice();
-    values(columns, write.row.key.items())?;
-    values(columns, write.set.items())?;
-    all_set_by(write.kind, table, write.set.items())
+    let lookup = lookup_of(alloc, table)?;
+    values(table, &lookup, write.row.key.items())?;
+    values(table, &lookup, write.set.items())?;
+    all_set_by(write.kind, table, &lookup, &write.set)
 }
 
-fn no_key_set(key: &[Text], set: &[Cell]) -> Result<(), TxnFault>
-    ensures { MatchResult result (λ _. first_cell (key_cell key.now) set.now ≡ None) (λ e. not_memory e → first_cell (key_cell key.now) set.now ≡ Some e) }
+fn no_key_set(table: &Table, lookup: &Lookup, set: &[Cell]) -> Result<(), TxnFault>
+    requires { IsLookup table.now lookup.now }
+    ensures { MatchResult result (λ _. first_cell (key_cell table.now.key) set.now ≡ None) (λ e. not_memory e → first_cell (key_cell table.now.key) set.now ≡ Some e) }
 {
     for cell in set {
-        if among(&cell.column, key) {
+        if is_key(table, lookup, &cell.column) {
             return Err(TxnFault::KeyColumnSet(cell.column.copy()?));
         }
     }
     Ok(())
 }
 
-fn all_columns(columns: &[Column], set: &[Cell]) -> Result<(), TxnFault>
-    ensures { MatchResult result (λ _. first_cell (no_such columns.now) set.now ≡ None) (λ e. not_memory e → first_cell (no_such columns.now) set.now ≡ Some e) }
+fn write_keys(alloc: Global, table: &Table, write: &Write) -> Result<(), TxnFault>
+    ensures { MatchResult result (λ _. key_set table.now write.now ≡ None) (λ e. not_memory e → key_set table.now write.now ≡ Some e) }
+{
+    let lookup = lookup_of(alloc, table)?;
+    no_key_set(table, &lookup, write.set.items())
+}
+
+fn all_columns(table: &Table, lookup: &Lookup, set: &[Cell]) -> Result<(), TxnFault>
+    requires { IsLookup table.now lookup.now }
+    ensures { MatchResult result (λ _. first_cell (no_such table.now.columns) set.now ≡ None) (λ e. not_memory e → first_cell (no_such table.now.columns) set.now ≡ Some e) }
 {
     for cell in set {
-        let Some(_) = column_at(&cell.column, columns) else {
+        let Some(_) = column_of(table, lookup, &cell.column) else {
             return Err(TxnFault::NoColumn(cell.column.copy()?));
         };
     }
     Ok(())
 }
 
-fn all_of_key(key: &[Text], cells: &[Cell]) -> Result<(), TxnFault>
-    ensures { MatchResult result (λ _. first_cell (no_key key.now) cells.now ≡ None) (λ e. not_memory e → first_cell (no_key key.now) cells.now ≡ Some e) }
+fn all_of_key(table: &Table, lookup: &Lookup, cells: &[Cell]) -> Result<(), TxnFault>
+    requires { IsLookup table.now lookup.now }
+    ensures { MatchResult result (λ _. first_cell (no_key table.now.key) cells.now ≡ None) (λ e. not_memory e → first_cell (no_key table.now.key) cells.now ≡ Some e) }
 {
     for cell in cells {
-        if !among(&cell.column, key) {
+        if !is_key(table, lookup, &cell.column) {
             return Err(TxnFault::NoColumn(cell.column.copy()?));
         }
     }
     Ok(())
 }
 
-fn whole_key(cells: &[Cell], key: &[Text]) -> Result<(), TxnFault>
+fn whole_key(cells: &Cells, key: &[Text]) -> Result<(), TxnFault>
     ensures { MatchResult result (λ _. key_without cells.now key.now ≡ None) (λ e. not_memory e → key_without cells.now key.now ≡ Some e) }
 {
     for name in key {
@@ -187,28 +194,29 @@ fn whole_key(cells: &[Cell], key: &[Text]) -> Result<(), TxnFault>
     Ok(())
 }
 
-fn write_columns(table: &Table, write: &Write) -> Result<(), TxnFault>
+fn write_columns(alloc: Global, table: &Table, write: &Write) -> Result<(), TxnFault>
     ensures { MatchResult result (λ _. no_column table.now write.now ≡ None) (λ e. not_memory e → no_column table.now write.now ≡ Some e) }
 {
-    all_columns(table.columns.as_slice(), write.set.items())?;
-    all_of_key(table.key.as_slice(), write.row.key.items())?;
-    whole_key(write.row.key.items(), table.key.as_slice())
+    let lookup = lookup_of(alloc, table)?;
+    all_columns(table, &lookup, write.set.items())?;
+    all_of_key(table, &lookup, write.row.key.items())?;
+    whole_key(&write.row.key, table.key.as_slice())
 }
 
-fn bad(tables: &Tables, write: &Write) -> Result<(), TxnFault>
+fn bad(alloc: Global, tables: &Tables, write: &Write) -> Result<(), TxnFault>
     ensures { MatchResult result (λ _. bad_fault tables.now write.now ≡ None) (λ e. not_memory e → bad_fault tables.now write.now ≡ Some e) }
 {
     match tables.find(&write.row.table) {
-        Some(table) => write_values(table, write),
+        Some(table) => write_values(alloc, table, write),
         None => Ok(()),
     }
 }
 
-fn key(tables: &Tables, write: &Write) -> Result<(), TxnFault>
+fn key(alloc: Global, tables: &Tables, write: &Write) -> Result<(), TxnFault>
     ensures { MatchResult result (λ _. key_fault tables.now write.now ≡ None) (λ e. not_memory e → key_fault tables.now write.now ≡ Some e) }
 {
     match tables.find(&write.row.table) {
-        Some(table) => no_key_set(table.key.as_slice(), write.set.items()),
+        Some(table) => write_keys(alloc, table, write),
         None => Ok(()),
     }
 }
@@ -222,31 +230,31 @@ fn there(tables: &Tables, write: &Write) -> Result<(), TxnFault>
     }
 }
 
-fn columns(tables: &Tables, write: &Write) -> Result<(), TxnFault>
+fn columns(alloc: Global, tables: &Tables, write: &Write) -> Result<(), TxnFault>
     ensures { MatchResult result (λ _. column_fault tables.now write.now ≡ None) (λ e. not_memory e → column_fault tables.now write.now ≡ Some e) }
 {
     match tables.find(&write.row.table) {
-        Some(table) => write_columns(table, write),
+        Some(table) => write_columns(alloc, table, write),
         None => Ok(()),
     }
 }
 
 /// Whether all values may stand in their columns.
-pub(crate) fn all_good(tables: &Tables, writes: &[Write]) -> Result<(), TxnFault>
+pub(crate) fn all_good(alloc: Global, tables: &Tables, writes: &[Write]) -> Result<(), TxnFault>
     ensures { MatchResult result (λ _. first_of (bad_fault tables.now) writes.now ≡ None) (λ e. not_memory e → first_of (bad_fault tables.now) writes.now ≡ Some e) }
 {
     for write in writes {
-        bad(tables, write)?;
+        bad(alloc, tables, write)?;
     }
     Ok(())
 }
 
 /// Whether no key column is set.
-pub(crate) fn no_keys(tables: &Tables, writes: &[Write]) -> Result<(), TxnFault>
+pub(crate) fn no_keys(alloc: Global, tables: &Tables, writes: &[Write]) -> Result<(), TxnFault>
     ensures { MatchResult result (λ _. first_of (key_fault tables.now) writes.now ≡ None) (λ e. not_memory e → first_of (key_fault tables.now) writes.now ≡ Some e) }
 {
     for write in writes {
-        key(tables, write)?;
+        key(alloc, tables, write)?;
     }
     Ok(())
 }
@@ -262,11 +270,11 @@ pub(crate) fn all_tables(tables: &Tables, writes: &[Write]) -> Result<(), TxnFau
 }
 
 /// Whether all columns are there, and the rows have their tables' key columns.
-pub(crate) fn all_named(tables: &Tables, writes: &[Write]) -> Result<(), TxnFault>
+pub(crate) fn all_named(alloc: Global, tables: &Tables, writes: &[Write]) -> Result<(), TxnFault>
     ensures { MatchResult result (λ _. first_of (column_fault tables.now) writes.now ≡ None) (λ e. not_memory e → first_of (column_fault tables.now) writes.now ≡ Some e) }
 {
     for write in writes {
-        columns(tables, write)?;
+        columns(alloc, tables, write)?;
     }
     Ok(())
 }

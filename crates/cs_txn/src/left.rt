@@ -2,44 +2,22 @@ ghost use Rattle.std.specs.Prelude.{◌≡◌, [], IfOk, OnOk, option_copied};
 ghost use Rattle.std.specs.Ordering.{nat_cmp};
 ghost use Rattle.std.specs.Cmp.Lexicographic.{slice_cmp};
 ghost use Rattle.std.specs.List.Sorted.{IsStrictlySortedBy};
-ghost use Rattle.cs_schema.specs.Names.{is_same, is_among};
-ghost use Rattle.cs_txn.specs.Left.{free_names, free_columns_of, found_in, value_over, cells_for, row_cells, cells_left};
+ghost use Rattle.cs_txn.specs.Left.{free_names, free_columns_of, value_over, cells_for, row_cells, cells_left};
 
 use crate::Write;
+use crate::finding::{find, is_key, lookup_of};
 use cs_schema::{Table, Tables};
 use cs_types::{Cell, Cells, Duplicate, Items, Kind, Memory, Text, Value};
 use std::alloc::Global;
-use std::cmp::Ordering;
 use std::collections::BTreeSet;
-
-/// Whether two names are the same bytes.
-pub(crate) fn same(a: &Text, b: &Text) -> bool
-    ensures { result ≡ is_same a.now b.now }
-{
-    match a.cmp(b) {
-        Ordering::Equal => true,
-        _ => false,
-    }
-}
-
-/// Whether a name stands in a list of names.
-pub(crate) fn among(name: &Text, names: &[Text]) -> bool
-    ensures { result ≡ is_among name.now names.now }
-{
-    for one in names {
-        if same(one, name) {
-            return true;
-        }
-    }
-    false
-}
 
 fn free(alloc: Global, table: &Table) -> Result<BTreeSet<Text>, Memory>
     ensures { IfOk result (λ names. names.keys ≡ free_names [] table.now.key table.now.columns) }
 {
+    let lookup = lookup_of(alloc, table)?;
     let mut names = BTreeSet::new(alloc);
     for column in table.columns.as_slice() {
-        if !among(&column.name, table.key.as_slice()) {
+        if !is_key(table, &lookup, &column.name) {
             names.insert(column.name.copy()?)?;
         }
     }
@@ -60,19 +38,7 @@ pub(crate) fn free_columns(
     }
 }
 
-/// The value of a column, where there is a cell of it.
-pub(crate) fn find<'a>(column: &Text, cells: &'a [Cell]) -> Option<&'a Value>
-    ensures { option_copied result ≡ found_in column.now cells.now }
-{
-    for cell in cells {
-        if same(&cell.column, column) {
-            return Some(&cell.value);
-        }
-    }
-    None
-}
-
-fn value_of(column: &Text, set: &[Cell], under: &[Cell]) -> Result<Value, Memory>
+fn value_of(column: &Text, set: &Cells, under: &Cells) -> Result<Value, Memory>
     ensures { IfOk result (λ v. v ≡ value_over column.now set.now under.now) }
 {
     match find(column, set) {
@@ -87,8 +53,8 @@ fn value_of(column: &Text, set: &[Cell], under: &[Cell]) -> Result<Value, Memory
 fn items_for(
     alloc: Global,
     columns: &BTreeSet<Text>,
-    set: &[Cell],
-    under: &[Cell],
+    set: &Cells,
+    under: &Cells,
 ) -> Result<Items<Cell>, Memory>
     ensures cells { IfOk result (λ c. c ≡ cells_for columns.now.keys set.now under.now) }
     ensures ordered { OnOk result (IsStrictlySortedBy (slice_cmp nat_cmp) columns.now.keys) }
@@ -112,7 +78,7 @@ fn all_cells(
 ) -> Result<Cells, Memory>
     ensures { IfOk result (λ c. c ≡ cells_for columns.now.keys set.now under.now) }
 {
-    let cells = items_for(alloc, columns, set.items(), under.items())?;
+    let cells = items_for(alloc, columns, set, under)?;
     Ok(Cells::in_order(cells))
 }
 

@@ -3,8 +3,11 @@
 
 mod columns;
 mod fault;
+mod finding;
 mod history;
 mod left;
+mod lengths;
+mod lookup;
 mod refusals;
 mod rows;
 mod sizes;

@@ -167,10 +167,10 @@ pub(crate) fn check(
 {
     check_rows(alloc, rows, ids, last, items, txn)?;
     let writes = txn.writes.as_slice();
-    all_good(tables, writes)?;
-    no_keys(tables, writes)?;
+    all_good(alloc, tables, writes)?;
+    no_keys(alloc, tables, writes)?;
     all_shared(rows, items, txn.stamp, writes)?;
     all_tables(tables, writes)?;
-    all_named(tables, writes)?;
+    all_named(alloc, tables, writes)?;
     Ok(())
 }

@@ -1,51 +1,22 @@
-ghost use Rattle.std.specs.Prelude.{◌≡◌, ◌<◌, ◌≤◌, ◌+◌, IfOk, OnOk, MatchOption, MatchResult, Some, None};
-ghost use Rattle.serde_json.specs.View.{view, members_view};
+ghost use Rattle.std.specs.Prelude.{◌≡◌, ◌<◌, ◌≤◌, ◌+◌, IfOk, MatchOption, MatchResult, Some, None};
 ghost use Rattle.cs_txn.specs.Faults.{not_memory};
-ghost use Rattle.cs_txn.specs.Sizes.{members_with, row_data, row_size, size_before, size_after, history_limit, large_fault, first_large, weight, weights_of, total};
+ghost use Rattle.cs_txn.specs.Sizes.{size_before, size_after, history_limit, large_fault, first_large, weight, weights_of, total};
 
+use crate::lengths::row_size;
 use crate::{Modification, TxnFault};
-use cs_types::{Cells, Duplicate, Items, Kind, Memory};
-use serde_json::{Map, Value, put};
+use cs_types::{Duplicate, Items, Kind, Memory};
 use std::alloc::Global;
 
 const ROW_LIMIT: u64 = 65_536;
+
 const HISTORY_LIMIT: u64 = 134_217_728;
-
-/// Puts in a member for each cell.
-fn put_cells(alloc: Global, members: &mut Map<String, Value>, cells: &Cells) -> Result<(), Memory>
-    ensures { OnOk result (members_view members.new.entries ≡ members_with (members_view members.old.entries) cells.now) }
-{
-    for cell in cells.items() {
-        let tree = cell.value.to_tree(alloc)?;
-        put(members, alloc, cell.column.as_str(), tree)?;
-    }
-    Ok(())
-}
-
-fn row_tree(alloc: Global, key: &Cells, cells: &Cells) -> Result<Value, Memory>
-    ensures { IfOk result (λ v. view v ≡ row_data key.now cells.now) }
-{
-    let mut members = Map::new(alloc);
-    put_cells(alloc, &mut members, key)?;
-    put_cells(alloc, &mut members, cells)?;
-    Ok(Value::Object(members))
-}
-
-/// The length of a row's object as JSON without spaces.
-fn size(alloc: Global, key: &Cells, cells: &Cells) -> Result<u64, Memory>
-    ensures { IfOk result (λ n. n ≡ row_size key.now cells.now) }
-{
-    let tree = row_tree(alloc, key, cells)?;
-    let text = tree.to_string(alloc)?;
-    Ok(text.as_str().len() as u64)
-}
 
 fn before(alloc: Global, item: &Modification) -> Result<u64, Memory>
     ensures { IfOk result (λ n. n ≡ size_before item.now.kind item.now.row.key item.now.before) }
 {
     match item.kind {
         Kind::Insert => Ok(0),
-        _ => size(alloc, &item.row.key, &item.before),
+        _ => row_size(alloc, &item.row.key, &item.before),
     }
 }
 
@@ -54,7 +25,7 @@ fn after(alloc: Global, item: &Modification) -> Result<u64, Memory>
 {
     match item.kind {
         Kind::Delete => Ok(0),
-        _ => size(alloc, &item.row.key, &item.after),
+        _ => row_size(alloc, &item.row.key, &item.after),
     }
 }
 

@@ -1,4 +1,4 @@
-use cs_types::{Cells, Items, Kind, RowName, Stamp, Text};
+use cs_types::{Cells, Duplicate, Items, Kind, Memory, RowName, Stamp, Text};
 
 /// One write of a transaction, to one row.
 #[derive(Debug, Drop)]
@@ -9,6 +9,16 @@ pub struct Write {
     pub row: RowName,
     /// The cells that it sets, of columns that are no key columns; none for a DELETE.
     pub set: Cells,
+}
+
+impl Duplicate for Write {
+    fn copy(&self) -> Result<Write, Memory> {
+        Ok(Write {
+            kind: self.kind,
+            row: self.row.copy()?,
+            set: self.set.copy()?,
+        })
+    }
 }
 
 /// A transaction that is to commit.
@@ -22,6 +32,17 @@ pub struct Txn {
     pub tag: Text,
     /// Its writes. One without any leaves no trace in a history.
     pub writes: Items<Write>,
+}
+
+impl Duplicate for Txn {
+    fn copy(&self) -> Result<Txn, Memory> {
+        Ok(Txn {
+            stamp: self.stamp,
+            tx: self.tx.copy()?,
+            tag: self.tag.copy()?,
+            writes: self.writes.copy()?,
+        })
+    }
 }
 
 /// What a committed write did to its row.
@@ -44,4 +65,19 @@ pub struct Modification {
     pub before: Cells,
     /// The like, as after the write.
     pub after: Cells,
+}
+
+impl Duplicate for Modification {
+    fn copy(&self) -> Result<Modification, Memory> {
+        Ok(Modification {
+            stamp: self.stamp,
+            tx: self.tx.copy()?,
+            tag: self.tag.copy()?,
+            kind: self.kind,
+            row: self.row.copy()?,
+            named: self.named.copy()?,
+            before: self.before.copy()?,
+            after: self.after.copy()?,
+        })
+    }
 }

@@ -3,4 +3,4 @@ use Rattle.cs_txn.specs.Columns.{unset}
 use Rattle.cs_txn.proofs.columns.all_set.Given as goal
 
 abbrev pub invariant-loop-column : goal.invariant-loop-column
-invariant-loop-column l = unset l.key l.set (drop l.column-index l.columns) ≡ unset l.key l.set l.columns
+invariant-loop-column l = unset l.table.key l.set (drop l.column-index l.column-items) ≡ unset l.table.key l.set l.table.columns
