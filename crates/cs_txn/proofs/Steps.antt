@@ -1,0 +1,101 @@
+-- One step of each loop over a list.
+use Rattle.std.proofs.Common.{◌≡◌, ◌∙◌, sym, ap, subst, refl, ℕ, ◌+◌, ◌<◌, List, [], ◌∷◌, ◌++◌, length, take, drop, get_or, Some, cond, false, true, Bool, is_some, arith, append_assoc}
+use Rattle.std.specs.declared.option.Option.{Option}
+use Rattle.std.specs.Option.{IsSome}
+use Rattle.std.specs.BTreeMap.{BTreeMap, get, is_at}
+use Rattle.std.proofs.lemmas.List.{take_more, drop_more, length-append, length-take-le}
+use Rattle.cs_types.specs.declared.change.RowName.{RowName}
+use Rattle.cs_types.specs.Row.{row_cmp}
+use Rattle.cs_txn.specs.declared.txn.Write.{Write}
+use Rattle.cs_txn.specs.declared.fault.TxnFault.TheVariants.{RowTwice}
+use Rattle.cs_txn.specs.declared.txn.Modification.{Modification}
+use Rattle.cs_types.specs.Row.{same_row}
+use Rattle.cs_txn.specs.Places.{PlacesOf, HaveRoom}
+use Rattle.cs_txn.specs.Faults.{is_named, twice_behind, NamesOf}
+use Rattle.cs_txn.proofs.Places.{places_more, room_kept}
+
+pub take_next : {X : Type 0} (xs : List X) (i : ℕ) (x : X) → i < length xs → x ≡ get_or xs i x → take (i + 1) xs ≡ take i xs ++ x ∷ []
+take_next xs i x lt e = take_more xs i x lt ∙ ap (λ y. take i xs ++ y ∷ []) (sym e)
+
+pub drop_next : {X : Type 0} (xs : List X) (i : ℕ) (x : X) → i < length xs → x ≡ get_or xs i x → drop i xs ≡ x ∷ drop (i + 1) xs
+drop_next xs i x lt e = drop_more xs i x lt ∙ ap (λ y. y ∷ drop (i + 1) xs) (sym e)
+
+length_before : {X : Type 0} (xs ys : List X) (i : ℕ) → i < length ys → length (xs ++ take i ys) ≡ length xs + i
+length_before xs ys i lt = length-append xs (take i ys) ∙ ap (λ n. length xs + n) (length-take-le i ys (omega arith))
+
+-- rooms
+
+pub have_kept : (m n : BTreeMap RowName (Option ℕ)) (ms : List Modification) → ((q : RowName) → IsSome (get row_cmp m q) → IsSome (get row_cmp n q)) → HaveRoom m ms → HaveRoom n ms
+have_kept m n [] k h = tt
+have_kept m n (x ∷ ms) k h = (k x.row h.0, have_kept m n ms k h.1)
+
+pub have_more : (m : BTreeMap RowName (Option ℕ)) (ms : List Modification) (x : Modification) → HaveRoom m ms → IsSome (get row_cmp m x.row) → HaveRoom m (ms ++ x ∷ [])
+have_more m [] x h e = (e, tt)
+have_more m (y ∷ ms) x h e = (h.0, have_more m ms x h.1 e)
+
+pub rooms_step : (m n : BTreeMap RowName (Option ℕ)) (added : List Modification) (i : ℕ) (x : Modification) → i < length added → x ≡ get_or added i x
+    → HaveRoom m (take i added) → ((q : RowName) → IsSome (get row_cmp m q) → IsSome (get row_cmp n q)) → IsSome (get row_cmp n x.row) → HaveRoom n (take (i + 1) added)
+rooms_step m n added i x lt e h k there =
+    let P : List Modification → Type 0 = λ ms. HaveRoom n ms in
+    subst P (sym (take_next added i x lt e)) (have_more n (take i added) x (have_kept m n (take i added) k h) there)
+
+-- places
+
+puts_keep : (m n : BTreeMap RowName (Option ℕ)) (k : RowName) (v : Option ℕ) → ((q : RowName) → get row_cmp n q ≡ cond (is_at (row_cmp k) q) (Some v) (get row_cmp m q)) → (q : RowName) → IsSome (get row_cmp m q) → IsSome (get row_cmp n q)
+puts_keep m n k v u q h = let P : Option (Option ℕ) → Type 0 = λ o. IsSome o in subst P (sym (u q)) (room_kept (is_at (row_cmp k) q) v (get row_cmp m q) h)
+
+pub put_places : (m n : BTreeMap RowName (Option ℕ)) (items added : List Modification) (i place : ℕ) (x : Modification) → i < length added → x ≡ get_or added i x → place ≡ length items + i
+    → PlacesOf (items ++ take i added) m
+    → ((q : RowName) → get row_cmp n q ≡ cond (is_at (row_cmp x.row) q) (Some (Some place)) (get row_cmp m q))
+    → PlacesOf (items ++ take (i + 1) added) n
+put_places m n items added i place x lt e at h u =
+    let P : List Modification → Type 0 = λ ms. PlacesOf ms n in
+    let len : place ≡ length (items ++ take i added) = at ∙ sym (length_before items added i lt) in
+    let is : (items ++ take i added) ++ x ∷ [] ≡ items ++ take (i + 1) added = append_assoc items (take i added) (x ∷ []) ∙ ap (λ ms. items ++ ms) (sym (take_next added i x lt e)) in
+    subst P is (places_more m n (items ++ take i added) x h (λ q. u q ∙ ap (λ p. cond (is_at (row_cmp x.row) q) (Some (Some p)) (get row_cmp m q)) len))
+
+pub put_room : (m n : BTreeMap RowName (Option ℕ)) (added : List Modification) (i place : ℕ) (x : Modification) → i < length added → x ≡ get_or added i x
+    → HaveRoom m (drop i added)
+    → ((q : RowName) → get row_cmp n q ≡ cond (is_at (row_cmp x.row) q) (Some (Some place)) (get row_cmp m q))
+    → HaveRoom n (drop (i + 1) added)
+put_room m n added i place x lt e h u =
+    let P : List Modification → Type 0 = λ ms. HaveRoom m ms in
+    have_kept m n (drop (i + 1) added) (puts_keep m n x.row (Some place) u) (subst P (drop_next added i x lt e) h).1
+
+-- names
+
+named_more : (q : RowName) (ws : List Write) (w : Write) → is_named q (ws ++ w ∷ []) ≡ cond (same_row w.row q) true (is_named q ws)
+named_more q [] w = refl
+named_more q (x ∷ ws) w =
+    ap (cond (same_row x.row q) true) (named_more q ws w)
+    ∙ both (same_row x.row q) (same_row w.row q)
+  where
+    both : (a b : Bool) → cond a true (cond b true (is_named q ws)) ≡ cond b true (cond a true (is_named q ws))
+    both true true = refl
+    both true false = refl
+    both false true = refl
+    both false false = refl
+
+some_cond : (b : Bool) (o : Option (Unit {0})) → is_some (cond b (Some tt) o) ≡ cond b true (is_some o)
+some_cond true o = refl
+some_cond false o = refl
+
+pub names_step : (m n : BTreeMap RowName (Unit {0})) (ws : List Write) (i : ℕ) (w : Write) → i < length ws → w ≡ get_or ws i w
+    → NamesOf (take i ws) m
+    → ((q : RowName) → get row_cmp n q ≡ cond (is_at (row_cmp w.row) q) (Some tt) (get row_cmp m q))
+    → NamesOf (take (i + 1) ws) n
+names_step m n ws i w lt e h u q =
+    ap is_some (u q) ∙ some_cond (is_at (row_cmp w.row) q) (get row_cmp m q)
+    ∙ ap (cond (is_at (row_cmp w.row) q) true) (h q) ∙ sym (named_more q (take i ws) w)
+    ∙ ap (is_named q) (sym (take_next ws i w lt e))
+
+pub twice_step : (ws : List Write) (i : ℕ) (w : Write) → i < length ws → w ≡ get_or ws i w → is_named w.row (take i ws) ≡ false
+    → twice_behind (take (i + 1) ws) (drop (i + 1) ws) ≡ twice_behind (take i ws) (drop i ws)
+twice_step ws i w lt e f =
+    ap (λ xs. twice_behind xs (drop (i + 1) ws)) (take_next ws i w lt e)
+    ∙ sym (ap (twice_behind (take i ws)) (drop_next ws i w lt e) ∙ ap (λ b. cond b (Some (RowTwice w.row)) (twice_behind (take i ws ++ w ∷ []) (drop (i + 1) ws))) f)
+
+pub twice_here : (ws : List Write) (i : ℕ) (w : Write) → i < length ws → w ≡ get_or ws i w → is_named w.row (take i ws) ≡ true
+    → twice_behind (take i ws) (drop i ws) ≡ Some (RowTwice w.row)
+twice_here ws i w lt e t =
+    ap (twice_behind (take i ws)) (drop_next ws i w lt e) ∙ ap (λ b. cond b (Some (RowTwice w.row)) (twice_behind (take i ws ++ w ∷ []) (drop (i + 1) ws))) t

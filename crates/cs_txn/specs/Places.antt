@@ -1,0 +1,30 @@
+-- What the maps beside a history's list hold: for each row the place of its last modification, and the ids that are used.
+use Rattle.std.specs.Prelude.{◌≡◌, ℕ, List, [], ◌∷◌, Some, None, cond, is_some, IsSome}
+use Rattle.std.specs.declared.option.Option.{Option}
+use Rattle.std.specs.Ordering.{nat_cmp}
+use Rattle.std.specs.Cmp.Lexicographic.{slice_cmp}
+use Rattle.std.specs.BTreeMap.{BTreeMap, get}
+use Rattle.cs_types.specs.declared.change.RowName.{RowName}
+use Rattle.cs_types.specs.Row.{row_cmp, same_row}
+use Rattle.cs_schema.specs.Names.{or_this}
+use Rattle.cs_schema.specs.Tables.{next_place, flat}
+use Rattle.cs_txn.specs.declared.txn.Modification.{Modification}
+use Rattle.cs_txn.specs.History.{is_used}
+
+-- the place of the last modification of a row
+abbrev pub last_place : RowName → List Modification → Option ℕ
+last_place row [] = None
+last_place row (m ∷ ms) = or_this (next_place (last_place row ms)) (cond (same_row m.row row) (Some 0) None)
+
+-- the map has of each row the place of its last modification; a row may stand in it with nothing
+abbrev pub PlacesOf : List Modification → BTreeMap RowName (Option ℕ) → Type 0
+PlacesOf ms rows = (row : RowName) → flat (get row_cmp rows row) ≡ last_place row ms
+
+-- the map has the ids of the transactions
+abbrev pub IdsOf : List Modification → BTreeMap (List ℕ) (Unit {0}) → Type 0
+IdsOf ms ids = (id : List ℕ) → is_some (get (slice_cmp nat_cmp) ids id) ≡ is_used id ms
+
+-- each of the rows has a place in the map
+abbrev pub HaveRoom : BTreeMap RowName (Option ℕ) → List Modification → Type 0
+HaveRoom rows [] = Unit {0}
+HaveRoom rows (m ∷ ms) = IsSome (get row_cmp rows m.row) × HaveRoom rows ms

@@ -1,0 +1,91 @@
+ghost use Rattle.std.specs.Prelude.{◌≡◌, ◌+◌, ◌<◌, ◌++◌, ◌∷◌, [], ℕ, List, length, IsSome, OnOk, Some, None, cond, All, option_copied, slice_get, ◌^◌};
+ghost use Rattle.std.specs.BTreeMap.{get, is_at};
+ghost use Rattle.cs_types.specs.Row.{row_cmp};
+ghost use Rattle.cs_types.specs.declared.change.RowName.{RowName as row_name};
+ghost use Rattle.cs_schema.specs.Tables.{flat};
+ghost use Rattle.cs_txn.specs.History.{last_of};
+ghost use Rattle.cs_txn.specs.Places.{PlacesOf, last_place, HaveRoom};
+
+use crate::Modification;
+use cs_types::{Duplicate, Memory, RowName};
+use std::collections::BTreeMap;
+
+/// The last modification of a row.
+pub(crate) fn last_at<'a>(
+    rows: &BTreeMap<RowName, Option<usize>>,
+    items: &'a [Modification],
+    row: &RowName,
+) -> Option<&'a Modification>
+    requires { PlacesOf items.now rows.now }
+    ensures { option_copied result ≡ last_of row.now items.now }
+{
+    match rows.get(row) {
+        Some(Some(place)) => item_at(items, *place),
+        _ => None,
+    }
+}
+
+fn item_at(items: &[Modification], place: usize) -> Option<&Modification>
+    ensures { option_copied result ≡ slice_get items.now place }
+{
+    if place < items.len() {
+        Some(&items[place])
+    } else {
+        None
+    }
+}
+
+/// Makes a place for the row, with nothing in it where it had none.
+fn room(rows: &mut BTreeMap<RowName, Option<usize>>, row: &RowName) -> Result<(), Memory>
+    ensures there { OnOk result (IsSome (get row_cmp rows.new row.now)) }
+    ensures kept { (q : row_name) → IsSome (get row_cmp rows.old q) → IsSome (get row_cmp rows.new q) }
+    ensures same { (q : row_name) → flat (get row_cmp rows.new q) ≡ flat (get row_cmp rows.old q) }
+{
+    if !rows.contains_key(row) {
+        rows.insert(row.copy()?, None)?;
+    }
+    Ok(())
+}
+
+/// Sets the place of a row that has room: this takes no memory.
+fn put(rows: &mut BTreeMap<RowName, Option<usize>>, row: &RowName, place: usize)
+    requires { IsSome (get row_cmp rows.old row.now) }
+    ensures { (q : row_name) → get row_cmp rows.new q ≡ cond (is_at (row_cmp row.now) q) (Some (Some place)) (get row_cmp rows.old q) }
+{
+    match rows.get_mut(row) {
+        Some(slot) => *slot = Some(place),
+        None => unreachable!(),
+    }
+}
+
+/// Makes a place for each of the rows.
+pub(crate) fn rooms(
+    rows: &mut BTreeMap<RowName, Option<usize>>,
+    added: &[Modification],
+) -> Result<(), Memory>
+    ensures there { OnOk result (HaveRoom rows.new added.now) }
+    ensures same { (q : row_name) → flat (get row_cmp rows.new q) ≡ flat (get row_cmp rows.old q) }
+{
+    for item in added {
+        room(rows, &item.row)?;
+    }
+    Ok(())
+}
+
+/// Sets the place of each row that is added behind the items: this takes no memory.
+pub(crate) fn put_all(
+    rows: &mut BTreeMap<RowName, Option<usize>>,
+    items: &[Modification],
+    added: &[Modification],
+)
+    requires places { PlacesOf items.now rows.old }
+    requires there { HaveRoom rows.old added.now }
+    requires fits { length items.now + length added.now < 2 ^ 64 }
+    ensures { PlacesOf (items.now ++ added.now) rows.new }
+{
+    let mut place = items.len();
+    for item in added {
+        put(rows, &item.row, place);
+        place += 1;
+    }
+}
