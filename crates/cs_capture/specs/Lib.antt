@@ -1,0 +1,4 @@
+pub mod Captured
+pub mod SetColumns
+pub mod Table
+pub mod Wanted

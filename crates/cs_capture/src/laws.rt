@@ -1,0 +1,37 @@
+ghost use Rattle.std.specs.Prelude.{◌≡◌, ◌++◌, ◌↔◌, ◌⊎◌, [], List, None, Some, All, Contains, true, false};
+ghost use Rattle.cs_types.specs.declared.cells.Cell.{Cell};
+ghost use Rattle.cs_types.specs.declared.change.Kind.TheVariants.{Insert, Update, Delete};
+ghost use Rattle.cs_types.specs.declared.names.CaptureType.TheVariants.{NewRow};
+ghost use Rattle.cs_records.specs.declared.captured.Captured.{Captured};
+ghost use Rattle.cs_schema.specs.Names.{is_among};
+ghost use Rattle.cs_schema.specs.declared.types.Table.{Table};
+ghost use Rattle.cs_schema.specs.declared.types.Stream.{Stream};
+ghost use Rattle.cs_schema.specs.Watching.{watches_table};
+ghost use Rattle.cs_txn.specs.declared.txn.Modification.{Modification};
+ghost use Rattle.cs_capture.specs.Captured.{captured, is_watched_in};
+
+/// A law: nothing is captured exactly where the stream does not watch the table, or where an UPDATE
+/// names no watched column of its row.
+pub fn captures_nothing()
+    ensures { (tables : List Table) (stream : Stream) (m : Modification) → (captured tables stream m ≡ None) ↔ ((watches_table stream.watch m.row.table ≡ false) ⊎ ((m.kind ≡ Update) × All (λ (cell : Cell). is_watched_in tables stream m cell.column ≡ true → is_among cell.column m.named ≡ false) (m.after ++ m.before))) }
+{}
+
+/// A law: the captured change of a DELETE has no new cells.
+pub fn a_delete_has_no_new_cells()
+    ensures { (tables : List Table) (stream : Stream) (m : Modification) (c : Captured) → captured tables stream m ≡ Some c → m.kind ≡ Delete → c.change.new ≡ [] }
+{}
+
+/// A law: the captured change of an INSERT has no old cells.
+pub fn an_insert_has_no_old_cells()
+    ensures { (tables : List Table) (stream : Stream) (m : Modification) (c : Captured) → captured tables stream m ≡ Some c → m.kind ≡ Insert → c.change.old ≡ [] }
+{}
+
+/// A law: each cell of a captured change is of a watched column that is no key column.
+pub fn cells_are_of_watched_columns()
+    ensures { (tables : List Table) (stream : Stream) (m : Modification) (c : Captured) → captured tables stream m ≡ Some c → All (λ (cell : Cell). is_watched_in tables stream m cell.column ≡ true) (c.change.new ++ c.change.old) }
+{}
+
+/// A law: with NEW_ROW the captured change of an UPDATE has each watched cell of the row as it is.
+pub fn a_new_row_is_whole()
+    ensures { (tables : List Table) (stream : Stream) (m : Modification) (c : Captured) → captured tables stream m ≡ Some c → stream.capture ≡ NewRow → m.kind ≡ Update → All (λ (cell : Cell). is_watched_in tables stream m cell.column ≡ true → Contains c.change.new cell) m.after }
+{}
