@@ -2,8 +2,12 @@
 #![tactic(auto)]
 
 mod captured;
+mod faults;
+mod records;
 
 pub use captured::{Captured, ColumnInfo};
+pub use faults::{LineFault, RecordFault};
+pub use records::{Child, ChildRecord, DataRecord, Mod, Record};
 
 #[cfg(test)]
 mod tests;
