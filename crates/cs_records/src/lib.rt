@@ -2,8 +2,16 @@
 #![tactic(auto)]
 
 mod captured;
+mod changes;
+mod faults;
+mod names;
+mod records;
+mod weight;
 
 pub use captured::{Captured, ColumnInfo};
+pub use changes::changes_of;
+pub use faults::{LineFault, RecordFault};
+pub use records::{Child, ChildRecord, DataRecord, Mod, Record};
 
 #[cfg(test)]
 mod tests;
