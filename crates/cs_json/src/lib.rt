@@ -1,0 +1,6 @@
+//! The lines of records: JSON objects, both ways.
+#![tactic(auto)]
+
+mod change;
+mod fault;
+mod form;
