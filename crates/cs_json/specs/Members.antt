@@ -1,5 +1,5 @@
 -- The values of members, as trees.
-use Rattle.std.specs.Prelude.{ℕ, ◌^◌, List, [], ◌∷◌, Bool, is_some, nat_lt, if◌then◌else◌, Option, Some, None, option_and_then}
+use Rattle.std.specs.Prelude.{ℕ, ◌^◌, List, [], ◌∷◌, ◌++◌, Bool, is_some, nat_lt, if◌then◌else◌, Option, Some, None, option_and_then}
 use Rattle.serde_json.specs.Data.{Data, Num, Items, no_items, item}
 use Rattle.serde_json.specs.Find.{as_null, as_str, as_number, as_array, as_u64}
 use Rattle.serde_json.specs.Read.{read}
@@ -62,6 +62,11 @@ next_token (Some t) (Some ts) = Some (t ∷ ts)
 abbrev pub each_token : Items → Option (List (List ℕ))
 each_token no_items = Some []
 each_token (item d ds) = next_token (token_value d) (each_token ds)
+
+-- tokens, behind those that were read before them
+abbrev pub tokens_behind : List (List ℕ) → Option (List (List ℕ)) → Option (List (List ℕ))
+tokens_behind before None = None
+tokens_behind before (Some ts) = Some (before ++ ts)
 
 -- an array of tokens; null is none
 abbrev pub tokens_value : Data → Option (List (List ℕ))

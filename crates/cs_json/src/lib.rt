@@ -2,5 +2,10 @@
 #![tactic(auto)]
 
 mod change;
+mod children;
+mod element;
 mod fault;
 mod form;
+mod forms;
+mod text;
+mod tree;
