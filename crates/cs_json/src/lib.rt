@@ -3,9 +3,11 @@
 
 mod change;
 mod children;
+mod columns;
 mod element;
 mod fault;
 mod form;
 mod forms;
+mod missing;
 mod text;
 mod tree;
