@@ -1,10 +1,10 @@
 -- Texts of digits, by std's words.
-use Rattle.std.proofs.Common.{◌≡◌, ◌<◌, ◌≤◌, ◌^◌, ℕ, List, [], ◌∷◌, length, Bool, true, false, ◌&&◌, nat_lt, nat_le, Option, Some, None, refl, ap, sym, subst, ◌∙◌, true≢false, arith, rules}
-use Rattle.std.specs.Str.Parse.{AllDigits, IsNumeral, digits_value, without_leading_plus}
+use Rattle.std.proofs.Common.{◌≡◌, ◌<◌, ◌≤◌, ◌^◌, ℕ, List, [], ◌∷◌, length, Bool, true, false, nat_lt, Some, None, refl, ap, sym, subst, ◌∙◌, arith, rules}
+use Rattle.std.specs.Str.Parse.{IsNumeral, digits_value, without_leading_plus}
 use Rattle.std.proofs.lemmas.Str.Parse.{digits_value_short}
 use Rattle.cs_types.specs.Digits.{all_digits, is_digits}
 use Rattle.cs_types.proofs.Integers.{own, digits_of_all}
-use Rattle.cs_json.specs.Texts.{sequence_reading, in_63_bits, digits_reading}
+use Rattle.cs_json.specs.Texts.{sequence_reading, digits_reading}
 
 -- digits do not begin with a plus
 pub no_plus : (t : List ℕ) → is_digits t ≡ true → without_leading_plus t ≡ t

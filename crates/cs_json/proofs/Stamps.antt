@@ -1,6 +1,5 @@
 -- The stamp that a text spells, as a test.
-use Rattle.std.proofs.Common.{◌≡◌, ◌<◌, ◌≤◌, ℕ, suc, List, Bool, true, false, ◌&&◌, nat_lt, ℤ, pos, negsuc, ◌-ℤ◌, ◌*ℤ◌, ◌≤ℤ◌, Option, Some, None, Result, Ok, Err, refl, ap, sym, subst, ◌∙◌, arith, rules}
-use Rattle.std.specs.Int.{int_div_euclid}
+use Rattle.std.proofs.Common.{◌≡◌, ◌<◌, ℕ, List, Bool, true, false, ◌&&◌, nat_lt, ℤ, pos, negsuc, ◌-ℤ◌, ◌*ℤ◌, ◌≤ℤ◌, Some, None, Result, Ok, Err, refl, ap, sym, ◌∙◌, arith, rules}
 use Rattle.std.specs.Int.Signed.{le_z}
 use Rattle.std.specs.Ordering.{int_eq}
 use Rattle.std.proofs.lemmas.Int.{ints}
@@ -9,7 +8,7 @@ use Rattle.cs_types.specs.declared.moment.StampFault.{StampFault}
 use Rattle.cs_types.specs.declared.moment.StampFault.TheVariants.{Shape, Range, TooFine}
 use Rattle.cs_types.specs.declared.value_fault.ValueFault.{ValueFault}
 use Rattle.cs_types.specs.declared.value_fault.ValueFault.TheVariants.{Range as out_of_range}
-use Rattle.cs_types.specs.Moment.{IsMomentShape, SpellsMoment, IsBetweenMoments, moment_field}
+use Rattle.cs_types.specs.Moment.{IsMomentShape, SpellsMoment, moment_field}
 use Rattle.cs_types.specs.Stamp.{IsStamp, Spells, IsStampFault, stamp_text}
 use Rattle.cs_types.specs.Timestamps.{is_moment_shape, has_civil_moment, microseconds, in_microseconds, moment_reading}
 use Rattle.cs_types.proofs.DateReading.{both_of}
@@ -51,6 +50,7 @@ whole_of civil m z e = decide (civil && (int_eq (microseconds m *ℤ pos 1000) m
   where
     is_same : (a b : ℤ) → read_as a ≡ read_as b → a ≡ b
     is_same a b e = cc
+
     never : (z : ℤ) → refused ≡ read_as z → ⊥
     never z e = cc
 
@@ -67,6 +67,7 @@ no_stamp text Range fault = at (moment_reading text) refl
   where
     low : (n : ℕ) → 0 < n → moment_field text ≡ pos n *ℤ pos 1000 → (pos 1 *ℤ pos 1000) ≤ℤ moment_field text
     low n above e = rw e (omega (arith, ints, above))
+
     at : (r : Result ℤ ValueFault) → moment_reading text ≡ r → stamp_of_moment r ≡ None
     at (Err f) e = refl
     at (Ok (negsuc n)) e = refl

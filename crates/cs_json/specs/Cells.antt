@@ -1,5 +1,5 @@
 -- The mods of a data change record: cells by column (Spanner's page 'Change streams partitions, records, and queries').
-use Rattle.std.specs.Prelude.{◌≡◌, ℕ, List, [], ◌∷◌, codes, is_some, if◌then◌else◌, Option, Some, None, Result, Ok, Err}
+use Rattle.std.specs.Prelude.{ℕ, List, [], codes, is_some, if◌then◌else◌, Option, Some, None, Result, Ok, Err}
 use Rattle.serde_json.specs.Data.{Data, Items, no_items, item, Members, no_members, member}
 use Rattle.serde_json.specs.Find.{get, as_null, as_array, as_object}
 use Rattle.cs_types.specs.declared.cells.Cell.{Cell}
@@ -62,8 +62,8 @@ mod_from (Ok keys) (Ok new) (Ok old) = Ok (record { keys = keys; new = new; old 
 unfoldable pub mod_reading : List ColumnInfo → Data → Reading Mod
 mod_reading columns d = if is_some (as_object d)
     then mod_from (required_cells columns (codes "keys") (get (codes "keys") d))
-        (optional_cells columns (codes "new_values") (get (codes "new_values") d))
-        (optional_cells columns (codes "old_values") (get (codes "old_values") d))
+    (optional_cells columns (codes "new_values") (get (codes "new_values") d))
+    (optional_cells columns (codes "old_values") (get (codes "old_values") d))
     else Err (BadValue (codes "mods"))
 
 -- one mod or more

@@ -1,12 +1,11 @@
 -- What a data change record stands for (Spanner's page 'Change streams partitions, records, and queries').
-use Rattle.std.specs.Prelude.{ℕ, List, [], Bool, false, codes, is_some, if◌then◌else◌, Option, Some, None, Ok, Err}
+use Rattle.std.specs.Prelude.{ℕ, List, [], Bool, false, codes, is_some, if◌then◌else◌, Ok, Err}
 use Rattle.serde_json.specs.Data.{Data}
 use Rattle.serde_json.specs.Find.{as_bool, as_str, as_object}
 use Rattle.cs_types.specs.declared.change.Kind.{Kind}
 use Rattle.cs_types.specs.declared.names.CaptureType.{CaptureType}
 use Rattle.cs_records.specs.declared.captured.ColumnInfo.{ColumnInfo}
 use Rattle.cs_records.specs.declared.faults.LineFault.TheVariants.{BadValue}
-use Rattle.cs_records.specs.declared.records.DataRecord.{DataRecord}
 use Rattle.cs_records.specs.declared.records.Mod.{Mod}
 use Rattle.cs_records.specs.declared.records.Record.{Record}
 use Rattle.cs_records.specs.declared.records.Record.TheVariants.{Change}
@@ -71,10 +70,20 @@ change_from (Err e) rows facts = Err e
 change_from (Ok place) (Err e) facts = Err e
 change_from (Ok place) (Ok rows) (Err e) = Err e
 change_from (Ok place) (Ok rows) (Ok facts) = Ok (Change (record {
-    stamp = place.stamp; sequence = place.sequence; tx = place.tx; is_last = place.is_last; table = place.table;
-    columns = rows.columns; mods = rows.mods;
-    kind = facts.kind; capture = facts.capture; records_in_tx = facts.records_in_tx; parts_in_tx = facts.parts_in_tx;
-    tag = facts.tag; system = facts.system }))
+  stamp = place.stamp;
+  sequence = place.sequence;
+  tx = place.tx;
+  is_last = place.is_last;
+  table = place.table;
+  columns = rows.columns;
+  mods = rows.mods;
+  kind = facts.kind;
+  capture = facts.capture;
+  records_in_tx = facts.records_in_tx;
+  parts_in_tx = facts.parts_in_tx;
+  tag = facts.tag;
+  system = facts.system;
+}))
 
 -- a data change record
 unfoldable pub change_reading : Data → Reading Record

@@ -4,7 +4,6 @@ use Rattle.serde_json.specs.Data.{Data}
 use Rattle.serde_json.specs.Find.{as_array, as_object}
 use Rattle.cs_records.specs.declared.faults.LineFault.TheVariants.{BadValue}
 use Rattle.cs_records.specs.declared.records.Child.{Child}
-use Rattle.cs_records.specs.declared.records.ChildRecord.{ChildRecord}
 use Rattle.cs_records.specs.declared.records.Record.{Record}
 use Rattle.cs_records.specs.declared.records.Record.TheVariants.{Heartbeat, Children}
 use Rattle.cs_json.specs.Reading.{Reading, required, optional, each_in}
@@ -40,6 +39,6 @@ children_from (Ok start) (Ok sequence) (Ok children) = Ok (Children (record { st
 unfoldable pub children_reading : Data → Reading Record
 children_reading d = if is_some (as_object d)
     then children_from (required stamp_value (codes "start_timestamp") d)
-        (required sequence_value (codes "record_sequence") d)
-        (each_in child_reading (required as_array (codes "child_partitions") d))
+    (required sequence_value (codes "record_sequence") d)
+    (each_in child_reading (required as_array (codes "child_partitions") d))
     else Err (BadValue (codes "child_partitions_record"))

@@ -1,5 +1,5 @@
 -- The columns of a data change record (Spanner's page 'Change streams partitions, records, and queries').
-use Rattle.std.specs.Prelude.{◌≡◌, ℕ, List, [], ◌∷◌, ◌++◌, Bool, true, false, codes, cond, is_some, if◌then◌else◌, Option, Some, None, option_and_then, Ok, Err}
+use Rattle.std.specs.Prelude.{◌≡◌, ℕ, List, [], ◌∷◌, ◌++◌, Bool, codes, cond, is_some, if◌then◌else◌, Option, Some, None, option_and_then, Ok, Err}
 use Rattle.std.specs.Ordering.{nat_cmp}
 use Rattle.std.specs.Cmp.Lexicographic.{slice_cmp}
 use Rattle.std.specs.BTreeMap.{BTreeMap, is_at, get as at_key}
@@ -31,7 +31,7 @@ column_from (Ok name) (Ok ty) (Ok key) (Ok ordinal) = Ok (record { name = name; 
 unfoldable pub column_reading : Data → Reading ColumnInfo
 column_reading d = if is_some (as_object d)
     then column_from (required as_str (codes "name") d) (required type_value (codes "type") d)
-        (required as_bool (codes "is_primary_key") d) (required ordinal_value (codes "ordinal_position") d)
+    (required as_bool (codes "is_primary_key") d) (required ordinal_value (codes "ordinal_position") d)
     else Err (BadValue (codes "column_types"))
 
 -- whether two names are the same bytes

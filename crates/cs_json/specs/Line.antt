@@ -1,5 +1,5 @@
 -- What a line of a READ's answer stands for: one record as JSON (the object is this project's own; its members are those of Spanner's page 'Change streams partitions, records, and queries').
-use Rattle.std.specs.Prelude.{◌≡◌, ℕ, ◌==◌, List, Bool, length, codes, is_some, nat_lt, if◌then◌else◌, Option, Some, None, Ok, Err}
+use Rattle.std.specs.Prelude.{◌≡◌, ℕ, ◌==◌, List, length, codes, is_some, nat_lt, if◌then◌else◌, Option, Some, None, Ok, Err}
 use Rattle.std.specs.Str.{is_utf8}
 use Rattle.serde_json.specs.Data.{Data, Items, no_items, item}
 use Rattle.serde_json.specs.Find.{get, as_object}

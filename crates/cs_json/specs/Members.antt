@@ -1,12 +1,11 @@
 -- The values of members, as trees.
-use Rattle.std.specs.Prelude.{ℕ, ◌^◌, List, [], ◌∷◌, ◌++◌, Bool, is_some, nat_lt, if◌then◌else◌, Option, Some, None, option_and_then}
+use Rattle.std.specs.Prelude.{ℕ, ◌^◌, List, [], ◌∷◌, ◌++◌, is_some, nat_lt, if◌then◌else◌, Option, Some, None, option_and_then}
 use Rattle.serde_json.specs.Data.{Data, Num, Items, no_items, item}
 use Rattle.serde_json.specs.Find.{as_null, as_str, as_number, as_array, as_u64}
 use Rattle.serde_json.specs.Read.{read}
 use Rattle.cs_types.specs.declared.change.Kind.{Kind}
 use Rattle.cs_types.specs.declared.names.CaptureType.{CaptureType}
 use Rattle.cs_types.specs.Token.{token_reading}
-use Rattle.cs_json.specs.Reading.{or_this}
 use Rattle.cs_json.specs.Texts.{stamp_reading, sequence_reading, in_63_bits, digits_reading, is_transaction, is_name, where_it_is, kind_reading, capture_reading}
 
 -- what a text stands for, where the tree is one

@@ -3,7 +3,7 @@ use Rattle.std.specs.Prelude.{◌≡◌, ℕ, List, [], ◌∷◌, ◌++◌, Opt
 use Rattle.serde_json.specs.Data.{Data, Items, no_items, item}
 use Rattle.serde_json.specs.Find.{get}
 use Rattle.cs_records.specs.declared.faults.LineFault.{LineFault}
-use Rattle.cs_records.specs.declared.faults.LineFault.TheVariants.{NotJson, Member, ArrayCount, BadValue, TooLong, Memory}
+use Rattle.cs_records.specs.declared.faults.LineFault.TheVariants.{Member, BadValue, Memory}
 
 abbrev pub Reading : Type 0 → Type 0
 Reading A = Result A LineFault

@@ -240,7 +240,11 @@ impl Form for Ordinal {
 
     fn of(_: Global, tree: &Value) -> Result<Option<u32>, Memory> {
         match whole_of(tree) {
-            Some(n) => if n < ORDINAL_END { Ok(Some(n as u32)) } else { Ok(None) },
+            Some(n) => if n < ORDINAL_END {
+                Ok(Some(n as u32))
+            } else {
+                Ok(None)
+            },
             None => Ok(None),
         }
     }

@@ -110,8 +110,9 @@ pub(crate) fn is_name(text: &[u8]) -> bool
     ensures { result ≡ is_name text.now }
 {
     match text {
-        [first, after @ ..] =>
-            is_letter(*first) && are_name_bytes(after) && text.len() <= NAME_BYTES,
+        [first, after @ ..] => is_letter(*first)
+            && are_name_bytes(after)
+            && text.len() <= NAME_BYTES,
         [] => false,
     }
 }

@@ -1,6 +1,6 @@
-use Rattle.std.proofs.Common.{rules, ◌≡◌, ◌∙◌, sym, ap, true, false, take, Some, is_some}
+use Rattle.std.proofs.Common.{rules, ◌≡◌, ◌∙◌, sym, ap, false, take, is_some}
 use Rattle.cs_json.specs.Columns.{column_type}
-use Rattle.cs_json.proofs.Again.{types_step, again_step, again_here}
+use Rattle.cs_json.proofs.Again.{types_step, again_step}
 use Rattle.cs_json.proofs.columns.types_of.Goals as goal
 
 pub loop-column-preserved : goal.loop-column-preserved

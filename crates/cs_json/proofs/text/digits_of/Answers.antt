@@ -1,4 +1,4 @@
-use Rattle.std.proofs.Common.{◌≡◌, true, false, ap, sym, ◌∙◌, arith}
+use Rattle.std.proofs.Common.{◌≡◌, true, ap, sym, ◌∙◌, arith}
 use Rattle.cs_types.specs.Digits.{is_digits}
 use Rattle.cs_json.proofs.Numbers.{digits_bad, digits_fit, digits_over, digits_out}
 use Rattle.cs_json.proofs.text.digits_of.Goals as goal

@@ -1,4 +1,4 @@
-use Rattle.std.proofs.Common.{◌≡◌, true, false, ap, sym, ◌∙◌, arith}
+use Rattle.std.proofs.Common.{◌≡◌, true, ap, sym, ◌∙◌, arith}
 use Rattle.cs_types.specs.Digits.{is_digits}
 use Rattle.cs_json.proofs.Numbers.{sequence_bad, sequence_long, sequence_fits, sequence_fails}
 use Rattle.cs_json.proofs.text.sequence_of.Goals as goal
