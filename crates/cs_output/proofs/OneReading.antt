@@ -1,5 +1,5 @@
 -- Bytes are read in one way: a line has one text, and what stops the reading stops it at one place.
-use Rattle.std.proofs.Common.{◌≡◌, ◌≢◌, ◌⊎◌, ◌<◌, ◌≤◌, ◌+◌, ℕ, List, [], ◌∷◌, ◌++◌, length, All, Result, Ok, Err, MatchResult, codes, pos, slice_index, refl, sym, ap, ◌∙◌, subst, inl, inr, append_assoc, append-nil, arith}
+use Rattle.std.proofs.Common.{◌≡◌, ◌≢◌, ◌⊎◌, ◌+◌, ℕ, List, [], ◌∷◌, ◌++◌, length, All, Result, Ok, Err, MatchResult, codes, slice_index, refl, sym, ap, ◌∙◌, subst, inl, inr, append_assoc, append-nil, arith}
 use Rattle.std.proofs.lemmas.List.Elements.{All-nil, All-head, All-tail}
 use Rattle.cs_types.specs.Stamp.{IsStamp, stamp_text}
 use Rattle.cs_types.proofs.MomentTexts.{stamp_moment}
