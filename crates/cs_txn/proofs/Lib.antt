@@ -1,9 +1,9 @@
 pub mod Adding
-pub mod Finding
 pub mod Kept
 pub mod Leaves
-pub mod Lengths
 pub mod Places
+pub mod RowLengths
+pub mod Searching
 pub mod Sound
 pub mod Steps
 pub mod Weights

@@ -1,5 +1,5 @@
 -- Sums over lists that are put together.
-use Rattle.std.proofs.Common.{◌≡◌, ℕ, ◌+◌, List, [], ◌∷◌, ◌++◌, arith}
+use Rattle.std.proofs.Common.{◌≡◌, ◌+◌, List, [], ◌∷◌, ◌++◌, arith}
 use Rattle.cs_txn.specs.declared.txn.Modification.{Modification}
 use Rattle.cs_txn.specs.Sizes.{history_size}
 

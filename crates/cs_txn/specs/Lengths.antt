@@ -1,5 +1,5 @@
 -- The length of a row's object as JSON without spaces, from what each of its members takes.
-use Rattle.std.specs.Prelude.{ℕ, suc, List, [], ◌∷◌, ◌+◌, length, Some, None}
+use Rattle.std.specs.Prelude.{ℕ, zero, suc, List, [], ◌∷◌, ◌+◌, length, Some, None}
 use Rattle.std.specs.declared.option.Option.{Option}
 use Rattle.json.specs.Print.{quoted}
 use Rattle.serde_json.specs.Data.{Data, Members, no_members, member}

@@ -1,5 +1,5 @@
 -- How large a row and a history are, in bytes of JSON, and what is too large (the limits are this project's own).
-use Rattle.std.specs.Prelude.{◌≡◌, ℕ, List, [], ◌∷◌, Some, None, cond, nat_lt, ◌+◌, length, max}
+use Rattle.std.specs.Prelude.{ℕ, List, [], ◌∷◌, Some, None, cond, nat_lt, ◌+◌, length, max}
 use Rattle.std.specs.declared.option.Option.{Option}
 use Rattle.serde_json.specs.Data.{Data, object, Members, no_members, put}
 use Rattle.serde_json.specs.Written.{compact_text}

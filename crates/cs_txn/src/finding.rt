@@ -1,4 +1,4 @@
-ghost use Rattle.std.specs.Prelude.{◌≡◌, IfOk, IfSome, option_copied};
+ghost use Rattle.std.specs.Prelude.{◌≡◌, All, IfOk, IfSome, option_copied};
 ghost use Rattle.cs_types.specs.Cells.{IsRising};
 ghost use Rattle.cs_types.specs.Value.{IsInRange};
 ghost use Rattle.cs_schema.specs.Names.{is_same, is_among};
@@ -64,8 +64,10 @@ fn placed<'a>(
 }
 
 fn search<'a>(column: &Text, cells: &'a [Cell]) -> Option<&'a Value>
-    requires { IsRising cells.now }
-    ensures { option_copied result ≡ found_in column.now cells.now }
+    requires rising { IsRising cells.now }
+    requires in_range { All (λ c. IsInRange c.value) cells.now }
+    ensures value { option_copied result ≡ found_in column.now cells.now }
+    ensures in_range { IfSome result (λ v. IsInRange v.now) }
 {
     let mut low = 0;
     let mut high = cells.len();

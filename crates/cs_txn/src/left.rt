@@ -1,7 +1,8 @@
-ghost use Rattle.std.specs.Prelude.{◌≡◌, [], IfOk, OnOk, option_copied};
+ghost use Rattle.std.specs.Prelude.{◌≡◌, [], All, IfOk, OnOk, option_copied};
 ghost use Rattle.std.specs.Ordering.{nat_cmp};
 ghost use Rattle.std.specs.Cmp.Lexicographic.{slice_cmp};
 ghost use Rattle.std.specs.List.Sorted.{IsStrictlySortedBy};
+ghost use Rattle.cs_types.specs.Value.{IsInRange};
 ghost use Rattle.cs_txn.specs.Left.{free_names, free_columns_of, value_over, cells_for, row_cells, cells_left};
 
 use crate::Write;
@@ -39,7 +40,8 @@ pub(crate) fn free_columns(
 }
 
 fn value_of(column: &Text, set: &Cells, under: &Cells) -> Result<Value, Memory>
-    ensures { IfOk result (λ v. v ≡ value_over column.now set.now under.now) }
+    ensures value { IfOk result (λ v. v ≡ value_over column.now set.now under.now) }
+    ensures in_range { IfOk result IsInRange }
 {
     match find(column, set) {
         Some(value) => value.copy(),
@@ -58,6 +60,7 @@ fn items_for(
 ) -> Result<Items<Cell>, Memory>
     ensures cells { IfOk result (λ c. c ≡ cells_for columns.now.keys set.now under.now) }
     ensures ordered { OnOk result (IsStrictlySortedBy (slice_cmp nat_cmp) columns.now.keys) }
+    ensures in_range { IfOk result (All (λ c. IsInRange c.value)) }
 {
     let mut cells = Items::new(alloc);
     for column in columns {

@@ -1,7 +1,8 @@
-ghost use Rattle.std.specs.Prelude.{◌≡◌, ◌+◌, ℕ, List, IfOk, length, nat_lt};
+ghost use Rattle.std.specs.Prelude.{◌≡◌, ◌+◌, ℕ, List, IfOk, OnOk, length, nat_lt};
 ghost use Rattle.json.specs.Print.{escape_letter, escape_byte, quoted};
 ghost use Rattle.serde_json.specs.Data.{string};
 ghost use Rattle.serde_json.specs.Written.{compact_text};
+ghost use Rattle.cs_types.specs.Cells.{IsRising};
 ghost use Rattle.cs_types.specs.Value.{IsInRange, value_data};
 ghost use Rattle.cs_txn.specs.Left.{found_in};
 ghost use Rattle.cs_txn.specs.Lengths.{member_length, object_length, cells_length, length_if, hidden_length};
@@ -89,7 +90,8 @@ fn member_size(alloc: Global, name: &Text, value: &Value) -> Result<u64, Memory>
 }
 
 fn cells_size(alloc: Global, cells: &Cells) -> Result<u64, Memory>
-    ensures { IfOk result (λ n. n ≡ cells_length cells.now) }
+    ensures sum { IfOk result (λ n. n ≡ cells_length cells.now) }
+    ensures rising { OnOk result (IsRising cells.now) }
 {
     let mut sum = 0;
     for cell in cells.items() {

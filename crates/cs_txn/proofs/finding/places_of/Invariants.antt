@@ -7,3 +7,6 @@ invariant-loop-place l = record {
   within : l.place ≤ length l.columns;
   leads : LeadsFrom l.place l.columns l.places;
 }
+
+abbrev pub decreases-loop-place : goal.decreases-loop-place
+decreases-loop-place l = l.place

@@ -1,4 +1,4 @@
-use Rattle.std.proofs.Common.{◌≡◌, ◌≤◌, take, drop, length, None}
+use Rattle.std.proofs.Common.{◌≡◌, ◌≤◌, ◌-◌, take, drop, length, None}
 use Rattle.cs_txn.specs.Left.{found_in}
 use Rattle.cs_txn.proofs.finding.search.Given as goal
 
@@ -9,3 +9,6 @@ invariant-loop-low l = record {
   before : found_in l.column (take l.low l.cells) ≡ None;
   behind : found_in l.column (drop l.high l.cells) ≡ None;
 }
+
+abbrev pub decreases-loop-low : goal.decreases-loop-low
+decreases-loop-low l = l.high - l.low

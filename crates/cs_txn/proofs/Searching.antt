@@ -1,6 +1,5 @@
 -- One step of a search in rising cells, and of a map of columns.
-use Rattle.std.proofs.Common.{◌≡◌, ◌∙◌, sym, ap, subst, refl, ℕ, ◌+◌, ◌<◌, ◌≤◌, List, [], ◌∷◌, ◌++◌, length, take, drop, get_or, map, Some, None, cond, false, true, Bool, is_some, arith, Less, Equal, Greater, nat_cmp}
-use Rattle.std.specs.declared.option.Option.{Option}
+use Rattle.std.proofs.Common.{◌≡◌, ◌∙◌, sym, ap, refl, ℕ, zero, suc, ◌+◌, ◌<◌, ◌≤◌, List, [], ◌∷◌, ◌++◌, length, take, drop, get_or, map, Some, None, cond, false, true, Bool, arith, Less, Equal, Greater, nat_cmp}
 use Rattle.std.specs.declared.cmp.Ordering.{Ordering}
 use Rattle.std.specs.Prelude.{slice_get}
 use Rattle.std.specs.Ordering.{is_eq, ordering_reverse}
@@ -11,7 +10,6 @@ use Rattle.std.specs.List.Sorted.{IsStrictlySortedBy}
 use Rattle.std.proofs.lemmas.List.{take-append-drop}
 use Rattle.std.proofs.lemmas.Map.Lookups.{exact_bytes}
 use Rattle.cs_types.specs.declared.cells.Cell.{Cell}
-use Rattle.cs_types.specs.declared.value.Value.{Value}
 use Rattle.cs_types.specs.Cells.{IsRising}
 use Rattle.cs_schema.specs.declared.types.Column.{Column}
 use Rattle.cs_schema.specs.Names.{or_this}
@@ -48,13 +46,15 @@ below_of c (d ∷ cs) (suc i) x h lt e = below_of c cs i x h.1 (omega (arith, lt
 pub not_it : (c : Cell) (cs : List Cell) (q : List ℕ) (o : Ordering) → slice_cmp nat_cmp c.column q ≡ o → is_eq o ≡ false → found_in q (c ∷ cs) ≡ found_in q cs
 not_it c cs q o e f = ap (λ b. cond b (Some c.value) (found_in q cs)) (ap is_eq e ∙ f)
 
-pub none_before : (cells : List Cell) (q : List ℕ) (i : ℕ) (x : Cell) → IsRising cells → i < length cells → x ≡ get_or cells i x → slice_cmp nat_cmp x.column q ≡ Less → found_in q (take (i + 1) cells) ≡ None
+pub none_before : (cells : List Cell) (q : List ℕ) (i j : ℕ) (x : Cell) → j ≡ i + 1 → IsRising cells → i < length cells → x ≡ get_or cells i x → slice_cmp nat_cmp x.column q ≡ Less → found_in q (take j cells) ≡ None
 unfolding IsStrictlySortedBy
-none_before [] q i x r lt e l = absurd (omega (arith, lt))
-none_before (c ∷ cs) q zero x r lt e l = not_it c [] q Less (ap (λ (y : Cell). slice_cmp nat_cmp y.column q) (sym e) ∙ l) refl
-none_before (c ∷ cs) q (suc i) x r lt e l =
-    not_it c (take (i + 1) cs) q Less (nat_list_cmp_total.trans c.column x.column q (below_of c cs i x r.0 (omega (arith, lt)) e) l) refl
-    ∙ none_before cs q i x r.1 (omega (arith, lt)) e l
+none_before [] q i j x is r lt e l = absurd (omega (arith, lt))
+none_before (c ∷ cs) q i zero x is r lt e l = absurd (omega (arith, is))
+none_before (c ∷ cs) q zero (suc zero) x is r lt e l = not_it c [] q Less (ap (λ (y : Cell). slice_cmp nat_cmp y.column q) (sym e) ∙ l) refl
+none_before (c ∷ cs) q zero (suc (suc j)) x is r lt e l = absurd (omega (arith, is))
+none_before (c ∷ cs) q (suc i) (suc j) x is r lt e l =
+    not_it c (take j cs) q Less (nat_list_cmp_total.trans c.column x.column q (below_of c cs i x r.0 (omega (arith, lt)) e) l) refl
+    ∙ none_before cs q i j x (omega (arith, is)) r.1 (omega (arith, lt)) e l
 
 pub none_above : (q : List ℕ) (cs : List Cell) → AllByRecursion (λ y. slice_cmp nat_cmp q y ≡ Less) (map (λ (d : Cell). d.column) cs) → found_in q cs ≡ None
 none_above q [] h = refl

@@ -1,5 +1,5 @@
 -- A row's object is as long as its cells together, each column counted once.
-use Rattle.std.proofs.Common.{◌≡◌, ◌∙◌, sym, ap, subst, refl, ℕ, suc, ◌+◌, ◌<◌, List, [], ◌∷◌, ◌++◌, length, map, Some, None, cond, false, true, Bool, arith, Less, Equal, Greater, nat_cmp, length-append}
+use Rattle.std.proofs.Common.{◌≡◌, ◌∙◌, sym, ap, subst, refl, ℕ, zero, suc, ◌+◌, ◌<◌, List, [], ◌∷◌, ◌++◌, length, map, Some, None, cond, true, arith, Less, Equal, Greater, nat_cmp, length-append}
 use Rattle.std.specs.declared.option.Option.{Option}
 use Rattle.std.specs.declared.cmp.Ordering.{Ordering}
 use Rattle.std.specs.Ordering.{is_eq, match_ordering, ordering_reverse}
@@ -17,9 +17,9 @@ use Rattle.cs_types.specs.Cells.{IsRising}
 use Rattle.cs_types.specs.Value.{value_data}
 use Rattle.cs_schema.specs.Names.{or_this}
 use Rattle.cs_txn.specs.Left.{found_in}
-use Rattle.cs_txn.specs.Sizes.{members_with, row_data, row_size}
-use Rattle.cs_txn.specs.Lengths.{member_length, members_length, object_length, cell_length, cells_length, length_if, hidden_length}
-use Rattle.cs_txn.proofs.Finding.{not_it, none_above}
+use Rattle.cs_txn.specs.Sizes.{members_with, row_size}
+use Rattle.cs_txn.specs.Lengths.{member_length, members_length, object_length, cells_length, length_if, hidden_length}
+use Rattle.cs_txn.proofs.Searching.{not_it, none_above}
 
 -- the text of an object
 
@@ -33,16 +33,16 @@ later_length (member k d ms) =
     let i = later_length ms in
     omega (arith, e, i)
 
-above_zero : (n : ℕ) → 0 < n → object_length n ≡ suc n
+pub above_zero : (n : ℕ) → 0 < n → object_length n ≡ n + 1
 above_zero zero h = absurd (omega (arith, h))
-above_zero (suc n) h = refl
+above_zero (suc n) h = omega arith
 
 pub object_text : (ms : Members) → length (compact_text (object ms)) ≡ object_length (members_length ms)
 object_text no_members = refl
 object_text (member k d ms) =
     let e : length (quoted k ++ 58 ∷ (compact_text d ++ members_text true ms)) ≡ length (quoted k) + suc (length (compact_text d) + length (members_text true ms)) = text_length k d (members_text true ms) in
     let i = later_length ms in
-    let whole : length (compact_text (object (member k d ms))) ≡ suc (member_length k d + members_length ms) = omega (arith, e, i) in
+    let whole : length (compact_text (object (member k d ms))) ≡ (member_length k d + members_length ms) + 1 = omega (arith, e, i) in
     whole ∙ sym (above_zero (member_length k d + members_length ms) (omega arith))
 
 -- what stands at a name, and what is put there
@@ -162,7 +162,7 @@ with_length ms (c ∷ cs) r =
 
 replaces_none : (cs : List Cell) → replaced no_members cs ≡ 0
 replaces_none [] = refl
-replaces_none (c ∷ cs) = replaces_none cs
+replaces_none (c ∷ cs) = let i = replaces_none cs in omega (arith, i)
 
 or_nothing : (name : List ℕ) (o : Option Value) → data_length name (or_this (data_of o) None) ≡ length_if name o
 or_nothing name None = refl
