@@ -1,1 +1,5 @@
+pub mod Cutting
+pub mod Groups
+pub mod SameColumns
 pub mod Seen
+pub mod Sound
