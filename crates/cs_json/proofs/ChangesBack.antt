@@ -1,5 +1,5 @@
 -- The tree that is written for a data change record reads as it.
-use Rattle.std.proofs.Common.{◌≡◌, ◌≢◌, ◌<◌, ◌^◌, ℕ, List, [], ◌∷◌, map, All, codes, nat_lt, Bool, true, None, Some, Ok, refl, ap, ◌∙◌, arith, rules}
+use Rattle.std.proofs.Common.{◌≡◌, ◌≢◌, ◌<◌, ◌^◌, List, [], ◌∷◌, map, All, nat_lt, true, None, Some, Ok, refl, rules}
 use Rattle.serde_json.specs.View.{items_of}
 use Rattle.cs_types.specs.declared.change.Kind.{Kind}
 use Rattle.cs_types.specs.declared.change.Kind.TheVariants.{Insert, Update, Delete}
@@ -10,16 +10,12 @@ use Rattle.cs_records.specs.declared.captured.ColumnInfo.{ColumnInfo}
 use Rattle.cs_records.specs.declared.records.DataRecord.{DataRecord}
 use Rattle.cs_records.specs.declared.records.Mod.{Mod}
 use Rattle.cs_records.specs.declared.records.Record.TheVariants.{Change}
-use Rattle.cs_json.specs.declared.change.Place.{Place}
-use Rattle.cs_json.specs.declared.change.Rows.{Rows}
-use Rattle.cs_json.specs.declared.change.Facts.{Facts}
-use Rattle.cs_json.specs.Reading.{each}
 use Rattle.cs_json.specs.Texts.{kind_reading, kind_text, capture_reading, capture_text}
 use Rattle.cs_json.specs.Missing.{missing_in_change}
-use Rattle.cs_json.specs.Columns.{apart_in, columns_reading}
-use Rattle.cs_json.specs.Cells.{mod_reading, some_mods, mods_reading}
+use Rattle.cs_json.specs.Columns.{columns_reading}
+use Rattle.cs_json.specs.Cells.{some_mods, mods_reading}
 use Rattle.cs_json.specs.Changes.{place_reading, rows_reading, facts_reading, change_reading}
-use Rattle.cs_json.specs.Written.{column_data, mod_data, change_data, CanStandFor, IsListedMod, IsKeptMod}
+use Rattle.cs_json.specs.Written.{mod_data, change_data, CanStandFor, IsListedMod, IsKeptMod}
 use Rattle.cs_json.proofs.Stamps.{stamp_written}
 use Rattle.cs_json.proofs.EightDigits.{sequence_written}
 use Rattle.cs_json.proofs.ColumnsBack.{columns_back, no_column_lacks, mods_back, no_mod_lacks}

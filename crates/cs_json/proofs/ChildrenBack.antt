@@ -1,5 +1,5 @@
 -- The trees that are written for a heartbeat and for a child record read as these.
-use Rattle.std.proofs.Common.{◌≡◌, ◌<◌, ℕ, List, [], ◌∷◌, map, All, codes, true, None, Some, Ok, refl, ap, arith}
+use Rattle.std.proofs.Common.{◌≡◌, ◌<◌, ℕ, List, [], ◌∷◌, map, All, codes, true, None, Some, Ok, refl}
 use Rattle.serde_json.specs.Data.{string}
 use Rattle.serde_json.specs.View.{items_of}
 use Rattle.cs_types.specs.Stamp.{IsStamp}

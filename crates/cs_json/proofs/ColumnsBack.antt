@@ -1,6 +1,5 @@
 -- The trees that are written for columns and mods read as these.
-use Rattle.std.proofs.Common.{◌≡◌, ◌<◌, ◌^◌, ℕ, List, [], ◌∷◌, map, All, codes, nat_lt, true, Option, None, Some, Ok, refl, ap, ◌∙◌, arith, rules}
-use Rattle.serde_json.specs.Data.{Data}
+use Rattle.std.proofs.Common.{◌≡◌, ◌<◌, ◌^◌, List, [], ◌∷◌, map, All, codes, nat_lt, true, Option, None, Some, Ok, refl, ap, rules}
 use Rattle.serde_json.specs.View.{items_of}
 use Rattle.cs_types.specs.declared.cells.Cell.{Cell}
 use Rattle.cs_types.specs.declared.column_type.ColumnType.{ColumnType}
@@ -11,11 +10,10 @@ use Rattle.cs_records.specs.declared.captured.ColumnInfo.{ColumnInfo}
 use Rattle.cs_records.specs.declared.records.Mod.{Mod}
 use Rattle.cs_json.specs.Reading.{each}
 use Rattle.cs_json.specs.Texts.{code_reading, code_text}
-use Rattle.cs_json.specs.Members.{ordinal_value}
 use Rattle.cs_json.specs.Missing.{missing_in, first_of, column_members}
 use Rattle.cs_json.specs.Columns.{column_type, column_reading}
 use Rattle.cs_json.specs.Cells.{cell_of_value, cell_of_type, cell_reading, each_cell, mod_reading}
-use Rattle.cs_json.specs.Written.{type_data, column_data, cells_members, mod_data, OfColumn, IsListed, IsListedMod, AreKept, IsKeptMod}
+use Rattle.cs_json.specs.Written.{column_data, cells_members, mod_data, OfColumn, IsListed, IsListedMod, AreKept, IsKeptMod}
 use Rattle.cs_json.proofs.Lists.{All-first, All-others}
 
 code_back : (ty : ColumnType) → code_reading (code_text ty) ≡ Some ty

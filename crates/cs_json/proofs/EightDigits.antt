@@ -1,9 +1,9 @@
 -- The eight digits of a number read as it.
-use Rattle.std.proofs.Common.{◌≡◌, ◌<◌, ◌≤◌, ℕ, suc, ◌+◌, ◌-◌, ◌*◌, ◌/◌, ◌%◌, List, [], ◌∷◌, ◌++◌, length, Bool, true, false, ◌&&◌, nat_lt, nat_le, Some, append_assoc, append-nil, refl, ap, ◌∙◌, arith, rules}
+use Rattle.std.proofs.Common.{◌≡◌, ◌<◌, ℕ, ◌+◌, ◌*◌, ◌/◌, ◌%◌, List, [], ◌∷◌, ◌++◌, length, true, ◌&&◌, nat_le, Some, refl, ap, ◌∙◌, arith}
 use Rattle.std.specs.Char.{digit_value}
 use Rattle.std.specs.Str.Parse.{digits_value, digits_value_after}
 use Rattle.cs_types.specs.Digits.{all_digits}
-use Rattle.cs_types.specs.Shape.{two_digits, four_digits}
+use Rattle.cs_types.specs.Shape.{two_digits}
 use Rattle.cs_json.specs.Texts.{eight_digits, sequence_reading}
 
 digit_is : (d : ℕ) → d < 10 → digit_value (48 + d) ≡ d

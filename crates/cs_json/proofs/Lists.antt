@@ -1,5 +1,5 @@
 -- What holds of each element, by the list's first element and the others.
-use Rattle.std.proofs.Common.{ℕ, suc, ◌<◌, List, ◌∷◌, length, All, arith}
+use Rattle.std.proofs.Common.{suc, List, ◌∷◌, All, arith}
 
 pub All-first : {X : Type 0} (P : X → Type 0) (x : X) (xs : List X) → All P (x ∷ xs) → P x
 All-first P x xs h = h 0 x (omega arith)
