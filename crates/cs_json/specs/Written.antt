@@ -1,0 +1,146 @@
+-- The one line that is written for a record: its JSON without spaces, members in byte order of their names (this project's own).
+use Rattle.std.specs.Prelude.{◌≡◌, ℕ, ◌^◌, ◌<◌, ◌≢◌, List, [], ◌∷◌, map, All, true, None, Some, Option, codes, ⊤}
+use Rattle.serde_json.specs.Data.{Data, boolean, number, unsigned, string, array, object, Items, no_items, item, Members, no_members, member}
+use Rattle.serde_json.specs.View.{items_of}
+use Rattle.serde_json.specs.Written.{compact_text}
+use Rattle.cs_types.specs.declared.cells.Cell.{Cell}
+use Rattle.cs_types.specs.declared.column_type.ColumnType.{ColumnType}
+use Rattle.cs_types.specs.declared.value.Value.{Value}
+use Rattle.cs_types.specs.Cells.{AreCells}
+use Rattle.cs_types.specs.Stamp.{IsStamp, stamp_text}
+use Rattle.cs_types.specs.Token.{is_token}
+use Rattle.cs_types.specs.Value.{IsOfType, IsWithin, value_data}
+use Rattle.cs_records.specs.declared.captured.ColumnInfo.{ColumnInfo}
+use Rattle.cs_records.specs.declared.records.Mod.{Mod}
+use Rattle.cs_records.specs.declared.records.DataRecord.{DataRecord}
+use Rattle.cs_records.specs.declared.records.Child.{Child}
+use Rattle.cs_records.specs.declared.records.ChildRecord.{ChildRecord}
+use Rattle.cs_records.specs.declared.records.Record.{Record}
+use Rattle.cs_records.specs.declared.records.Record.TheVariants.{Change, Heartbeat, Children}
+use Rattle.cs_json.specs.Texts.{eight_digits, is_transaction, is_name, kind_text, capture_text, code_text}
+use Rattle.cs_json.specs.Columns.{column_type, first_again}
+
+-- ---- the written tree
+
+abbrev pub heartbeat_data : ℕ → Data
+heartbeat_data at = object (member (codes "timestamp") (string (stamp_text at)) no_members)
+
+abbrev pub child_data : Child → Data
+child_data c = object (member (codes "parent_partition_tokens") (array (items_of (map string c.parents)))
+    (member (codes "token") (string c.token) no_members))
+
+abbrev pub children_data : ChildRecord → Data
+children_data c = object (member (codes "child_partitions") (array (items_of (map child_data c.children)))
+    (member (codes "record_sequence") (string (eight_digits c.sequence))
+    (member (codes "start_timestamp") (string (stamp_text c.start)) no_members)))
+
+abbrev pub type_data : ColumnType → Data
+type_data ty = object (member (codes "code") (string (code_text ty)) no_members)
+
+abbrev pub column_data : ColumnInfo → Data
+column_data c = object (member (codes "is_primary_key") (boolean c.is_key)
+    (member (codes "name") (string c.name)
+    (member (codes "ordinal_position") (number (unsigned c.ordinal))
+    (member (codes "type") (type_data c.ty) no_members))))
+
+-- cells as members, in their order
+abbrev pub cells_members : List Cell → Members
+cells_members [] = no_members
+cells_members (c ∷ cs) = member c.column (value_data c.value) (cells_members cs)
+
+abbrev pub mod_data : Mod → Data
+mod_data m = object (member (codes "keys") (object (cells_members m.keys))
+    (member (codes "new_values") (object (cells_members m.new))
+    (member (codes "old_values") (object (cells_members m.old)) no_members)))
+
+-- the members from number_of_partitions_in_transaction on
+abbrev pub last_members : DataRecord → Members
+last_members r =
+    member (codes "number_of_partitions_in_transaction") (number (unsigned r.parts_in_tx))
+    (member (codes "number_of_records_in_transaction") (number (unsigned r.records_in_tx))
+    (member (codes "record_sequence") (string (eight_digits r.sequence))
+    (member (codes "server_transaction_id") (string r.tx)
+    (member (codes "table_name") (string r.table)
+    (member (codes "transaction_tag") (string r.tag)
+    (member (codes "value_capture_type") (string (capture_text r.capture)) no_members))))))
+
+abbrev pub change_data : DataRecord → Data
+change_data r =
+    object (member (codes "column_types") (array (items_of (map column_data r.columns)))
+    (member (codes "commit_timestamp") (string (stamp_text r.stamp))
+    (member (codes "is_last_record_in_transaction_in_partition") (boolean r.is_last)
+    (member (codes "is_system_transaction") (boolean r.system)
+    (member (codes "mod_type") (string (kind_text r.kind))
+    (member (codes "mods") (array (items_of (map mod_data r.mods)))
+    (last_members r)))))))
+
+abbrev pub line_data : Items → Items → Items → Data
+line_data children changes heartbeats =
+    object (member (codes "child_partitions_record") (array children)
+    (member (codes "data_change_record") (array changes)
+    (member (codes "heartbeat_record") (array heartbeats) no_members)))
+
+-- the one tree that is written for a record
+abbrev pub record_data : Record → Data
+record_data (Heartbeat at) = line_data no_items no_items (item (heartbeat_data at) no_items)
+record_data (Children c) = line_data (item (children_data c) no_items) no_items no_items
+record_data (Change r) = line_data no_items (item (change_data r) no_items) no_items
+
+-- the written line of a record, without its end
+abbrev pub record_line : Record → List ℕ
+record_line r = compact_text (record_data r)
+
+-- ---- the records for which a line can stand
+
+abbrev pub OfColumn : Option ColumnType → Value → Type 0
+OfColumn None v = ⊥
+OfColumn (Some ty) v = IsOfType ty v
+
+-- the cell is of a listed column, and NULL or of the column's type
+abbrev pub IsListed : List ColumnInfo → Cell → Type 0
+IsListed columns c = OfColumn (column_type c.column columns) c.value
+
+pub record IsListedMod (columns : List ColumnInfo) (m : Mod) : Type 0 where
+  pub keys : All (IsListed columns) m.keys
+  pub new : All (IsListed columns) m.new
+  pub old : All (IsListed columns) m.old
+
+-- a line can stand for the data change record
+pub record CanStandFor (r : DataRecord) : Type 0 where
+  pub sequence : r.sequence < 100000000
+  pub transaction : is_transaction r.tx ≡ true
+  pub table : is_name r.table ≡ true
+  -- no two columns have one name
+  pub apart : first_again [] r.columns ≡ None
+  pub mods : r.mods ≢ []
+  pub cells : All (IsListedMod r.columns) r.mods
+  pub records_in_tx : r.records_in_tx < 2 ^ 63
+  pub parts_in_tx : r.parts_in_tx < 2 ^ 63
+
+-- a line can stand for the record
+abbrev pub CanStand : Record → Type 0
+CanStand (Heartbeat at) = ⊤
+CanStand (Children c) = c.sequence < 100000000
+CanStand (Change r) = CanStandFor r
+
+-- ---- what the types of a record keep
+
+-- a row's cells in their order, each value of its type's bits
+pub record AreKept (cells : List Cell) : Type 0 where
+  pub ordered : AreCells cells
+  pub within : All (λ c. IsWithin c.value) cells
+
+pub record IsKeptMod (m : Mod) : Type 0 where
+  pub keys : AreKept m.keys
+  pub new : AreKept m.new
+  pub old : AreKept m.old
+
+pub record IsKeptChild (c : Child) : Type 0 where
+  pub token : is_token c.token ≡ true
+  pub parents : All (λ t. is_token t ≡ true) c.parents
+
+-- what is so of each record, by the types of its parts
+abbrev pub IsKept : Record → Type 0
+IsKept (Heartbeat at) = IsStamp at
+IsKept (Children c) = IsStamp c.start × All IsKeptChild c.children
+IsKept (Change r) = IsStamp r.stamp × All (λ c. c.ordinal < 2 ^ 32) r.columns × All IsKeptMod r.mods
