@@ -1,6 +1,6 @@
 -- What a line of a READ's answer stands for: one record as JSON (the object is this project's own; its members are those of Spanner's page 'Change streams partitions, records, and queries').
-use Rattle.std.specs.Prelude.{◌≡◌, ℕ, ◌==◌, List, length, codes, is_some, nat_lt, if◌then◌else◌, Option, Some, None, Ok, Err}
-use Rattle.std.specs.Str.{is_utf8}
+use Rattle.std.specs.Prelude.{◌≡◌, ℕ, ◌==◌, List, true, length, codes, is_some, nat_lt, if◌then◌else◌, Option, Some, None, Ok, Err}
+use Rattle.std.specs.Str.{is_utf8, IsUtf8}
 use Rattle.serde_json.specs.Data.{Data, Items, no_items, item}
 use Rattle.serde_json.specs.Find.{get, as_object}
 use Rattle.serde_json.specs.Read.{read}
@@ -48,9 +48,18 @@ of_tree (Some d) = object_reading d
 unfoldable pub bytes_reading : List ℕ → Reading Record
 bytes_reading line = if is_utf8 line then of_tree (read line) else Err NotJson
 
--- the line stands for the record: as JSON it is an object whose members tell that record
-abbrev pub Spells : Record → List ℕ → Type 0
-Spells r line = bytes_reading line ≡ Ok r
+-- the tree's members tell the record
+abbrev pub Tells : Record → Data → Type 0
+Tells r d = tree_reading d ≡ Ok r
+
+-- the line stands for the record
+pub record Spells (r : Record) (line : List ℕ) : Type 0 where
+  pub text : IsUtf8 line
+  pub tree : Data
+  -- as JSON it is the tree, in which the later of two members of one name counts
+  pub json : read line ≡ Some tree
+  pub object : is_some (as_object tree) ≡ true
+  pub tells : Tells r tree
 
 -- the most bytes of a line
 abbrev pub line_end : ℕ

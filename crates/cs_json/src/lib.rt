@@ -15,3 +15,6 @@ mod text;
 mod tree;
 
 pub use line::{LINE_END, record_from_line};
+
+#[cfg(test)]
+mod tests;

@@ -14,12 +14,40 @@ use cs_records::{LineFault, Record};
 use serde_json::Value;
 use std::alloc::Global;
 
-/// The most bytes of a line.
+/// The most bytes of a line, an end of this project's own.
 pub const LINE_END: usize = 8_388_608;
 
-#[tactic(auto, using(crate::proofs::Lines::too_long, crate::proofs::Lines::no_text, crate::proofs::Lines::of_text))]
+/// The record for which a line stands, which is given without its end. The line is a JSON object
+/// (RFC 8259) with the arrays `child_partitions_record`, `data_change_record` and
+/// `heartbeat_record`, which together have one element; an absent array and null are empty. The
+/// members of the element are those of Spanner's page
+/// <https://cloud.google.com/spanner/docs/change-streams/details>. Unknown members are passed over,
+/// and of two members of one name the later counts. Trees in the places of `type`, `keys`,
+/// `new_values` and `old_values` may also stand as texts that hold them, and whole numbers as texts
+/// of digits.
+///
+/// A line is refused by the first of these faults that it has, an order of this project's own:
+/// - `TooLong`: it has more than [`LINE_END`] bytes.
+/// - `NotJson`: it is no JSON object in UTF-8.
+/// - `Member(name)`: an element of one of the arrays lacks a required member, or one of its
+///   columns, mods or children does.
+/// - `ArrayCount`: the arrays do not have one element together.
+/// - `BadValue(name)`: a member has a value that it cannot have, a column's name stands twice, or a
+///   cell is of no listed column or not of its column's type. The name is the member's, the
+///   column's, or for an element that is no object its array's.
 pub fn record_from_line(alloc: Global, line: &[u8]) -> Result<Record, LineFault>
     ensures reading { Gives result (line_reading line.now) }
+    ensures short { IfOk result (λ _. length line.now ≤ line_end) }
+    ensures spelled { IfOk result (λ r. Spells r line.now) }
+    ensures all { (r : Record) → Spells r line.now → length line.now ≤ line_end → MatchResult result (λ s. s ≡ r) (λ e. e ≡ LineFault.Memory) }
+    ensures one { (r s : Record) → Spells r line.now → Spells s line.now → r ≡ s }
+{
+    read_line(alloc, line)
+}
+
+#[tactic(auto, using(crate::proofs::Lines::too_long, crate::proofs::Lines::no_text, crate::proofs::Lines::of_text))]
+fn read_line(alloc: Global, line: &[u8]) -> Result<Record, LineFault>
+    ensures { Gives result (line_reading line.now) }
 {
     if line.len() > LINE_END {
         return Err(LineFault::TooLong);

@@ -1,3 +1,4 @@
 pub mod Columns
+pub mod Group
 pub mod Told
 pub mod Weight

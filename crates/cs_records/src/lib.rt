@@ -4,6 +4,7 @@
 mod captured;
 mod changes;
 mod faults;
+mod grouping;
 mod names;
 mod records;
 mod weight;
@@ -11,6 +12,7 @@ mod weight;
 pub use captured::{Captured, ColumnInfo};
 pub use changes::changes_of;
 pub use faults::{LineFault, RecordFault};
+pub use grouping::group;
 pub use records::{Child, ChildRecord, DataRecord, Mod, Record};
 
 #[cfg(test)]
