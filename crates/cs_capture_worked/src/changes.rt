@@ -14,17 +14,10 @@ fn three(rt: &impl Abort, alloc: Global, stream: &str) -> Result<String, Memory>
     let mut run = new_run(rt, alloc, stream);
     insert(rt, alloc, &mut run, "t1", FIRST, 1)?;
     let six = one_cell(alloc, number(alloc, "A", 6)?)?;
-    commit(rt, alloc, &mut run, "t2", SECOND, Kind::Update, 1, six)?;
-    commit(
-        rt,
-        alloc,
-        &mut run,
-        "t3",
-        THIRD,
-        Kind::Delete,
-        1,
-        no_cell(alloc),
-    )?;
+    let update = txn(rt, alloc, "t2", SECOND, Kind::Update, 1, six)?;
+    commit(rt, &mut run, &update);
+    let delete = txn(rt, alloc, "t3", THIRD, Kind::Delete, 1, no_cell(alloc))?;
+    commit(rt, &mut run, &delete);
     lines(rt, alloc, &run, FIRST, THIRD)
 }
 
@@ -98,9 +91,11 @@ fn updates(rt: &impl Abort, alloc: Global, stream: &str) -> Result<String, Memor
     let mut run = new_run(rt, alloc, stream);
     insert(rt, alloc, &mut run, "t1", FIRST, 1)?;
     let other = one_cell(alloc, text(alloc, "B", "y")?)?;
-    commit(rt, alloc, &mut run, "t2", SECOND, Kind::Update, 1, other)?;
+    let update = txn(rt, alloc, "t2", SECOND, Kind::Update, 1, other)?;
+    commit(rt, &mut run, &update);
     let same = one_cell(alloc, number(alloc, "A", 5)?)?;
-    commit(rt, alloc, &mut run, "t3", THIRD, Kind::Update, 1, same)?;
+    let again = txn(rt, alloc, "t3", THIRD, Kind::Update, 1, same)?;
+    commit(rt, &mut run, &again);
     lines(rt, alloc, &run, FIRST, THIRD)
 }
 

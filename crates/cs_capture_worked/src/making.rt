@@ -137,22 +137,11 @@ pub fn new_run(rt: &impl Abort, alloc: Global, stream: &str) -> Run {
     }
 }
 
-/// Commits a transaction that writes one row.
-pub fn commit(
-    rt: &impl Abort,
-    alloc: Global,
-    run: &mut Run,
-    id: &str,
-    at: u64,
-    kind: Kind,
-    key: i64,
-    set: Items<Cell>,
-) -> Result<(), Memory> {
-    let txn = txn(rt, alloc, id, at, kind, key, set)?;
-    let Ok(()) = run.history.commit(&run.catalog, &txn) else {
-        panic!(rt; "refused: {id}");
+/// Commits a transaction.
+pub fn commit(rt: &impl Abort, run: &mut Run, txn: &Txn) {
+    let Ok(()) = run.history.commit(&run.catalog, txn) else {
+        panic!(rt; "refused");
     };
-    Ok(())
 }
 
 /// Inserts a row with A 5 and B "x".
@@ -165,7 +154,9 @@ pub fn insert(
     key: i64,
 ) -> Result<(), Memory> {
     let set = two_cells(alloc, number(alloc, "A", 5)?, text(alloc, "B", "x")?)?;
-    commit(rt, alloc, run, id, at, Kind::Insert, key, set)
+    let insert = txn(rt, alloc, id, at, Kind::Insert, key, set)?;
+    commit(rt, run, &insert);
+    Ok(())
 }
 
 /// The lines of the wanted changes between two moments.
