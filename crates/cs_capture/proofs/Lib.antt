@@ -1,3 +1,4 @@
 pub mod Filter
+pub mod Ordinals
 pub mod Rules
 pub mod SetColumns

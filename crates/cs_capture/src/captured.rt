@@ -1,6 +1,4 @@
-ghost use Rattle.std.specs.Prelude.{◌≡◌, IfOk, option_copied};
-ghost use Rattle.cs_schema.specs.Tables.{table_named};
-ghost use Rattle.cs_schema.specs.Watching.{key_of};
+ghost use Rattle.std.specs.Prelude.{◌≡◌, IfOk};
 ghost use Rattle.cs_capture.specs.Captured.{is_touched, change_of, change_if, captured_change as captured_change_of, captured};
 ghost use Rattle.cs_capture.specs.SetColumns.{set_by};
 

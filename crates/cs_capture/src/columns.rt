@@ -72,7 +72,8 @@ fn infos(
 /// The ordinal of a table's first column.
 const FIRST: u32 = 1;
 
-/// The ordinal behind this one. A table has 1,024 columns at most, so there is one.
+/// The ordinal behind this one. A catalog takes 1,024 columns in a table, so there is one; a table
+/// of more columns than an ordinal counts would be want of memory.
 fn next(ordinal: u32) -> Result<u32, Memory>
     ensures { IfOk result (λ n. n ≡ ordinal + 1) }
 {

@@ -1,8 +1,10 @@
-ghost use Rattle.std.specs.Prelude.{◌≡◌, ◌++◌, ◌↔◌, ◌⊎◌, [], List, None, Some, All, Contains, true, false};
+ghost use Rattle.std.specs.Prelude.{◌≡◌, ◌++◌, ◌↔◌, ◌⊎◌, [], List, None, Some, All, Contains, map, true, false};
+ghost use Rattle.std.specs.List.Sorted.{IsStrictlyIncreasing};
 ghost use Rattle.cs_types.specs.declared.cells.Cell.{Cell};
 ghost use Rattle.cs_types.specs.declared.change.Kind.TheVariants.{Insert, Update, Delete};
 ghost use Rattle.cs_types.specs.declared.names.CaptureType.TheVariants.{NewRow};
 ghost use Rattle.cs_records.specs.declared.captured.Captured.{Captured};
+ghost use Rattle.cs_records.specs.declared.captured.ColumnInfo.{ColumnInfo};
 ghost use Rattle.cs_schema.specs.Names.{is_among};
 ghost use Rattle.cs_schema.specs.declared.types.Table.{Table};
 ghost use Rattle.cs_schema.specs.declared.types.Stream.{Stream};
@@ -34,4 +36,9 @@ pub fn cells_are_of_watched_columns()
 /// A law: with NEW_ROW the captured change of an UPDATE has each watched cell of the row as it is.
 pub fn a_new_row_is_whole()
     ensures { (tables : List Table) (stream : Stream) (m : Modification) (c : Captured) → captured tables stream m ≡ Some c → stream.capture ≡ NewRow → m.kind ≡ Update → All (λ (cell : Cell). is_watched_in tables stream m cell.column ≡ true → Contains c.change.new cell) m.after }
+{}
+
+/// A law: the ordinals of a column list rise.
+pub fn ordinals_rise()
+    ensures { (tables : List Table) (stream : Stream) (m : Modification) (c : Captured) → captured tables stream m ≡ Some c → IsStrictlyIncreasing (map (λ (i : ColumnInfo). i.ordinal) c.columns) }
 {}
