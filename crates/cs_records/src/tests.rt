@@ -1,4 +1,4 @@
-ghost use Rattle.std.specs.Prelude.{◌≡◌, ◌∷◌, [], All, IfOk, codes, false, length, map, true};
+ghost use Rattle.std.specs.Prelude.{◌≡◌, ◌∷◌, [], All, IfOk, codes, false, length, map, pos, true};
 ghost use Rattle.std.specs.List.{IsDistinct};
 ghost use Rattle.cs_types.specs.Row.{same_row};
 ghost use Rattle.cs_records.specs.Group.{Agree, HasItsColumns};
@@ -33,22 +33,22 @@ fn columns(alloc: Global) -> Result<Items<ColumnInfo>, Memory>
     Ok(columns)
 }
 
-fn key(alloc: Global, number: i64) -> Result<Cells, Memory>
-    ensures { IfOk result (λ c. c ≡ record { column = codes "K"; value = Value.Int64 number } ∷ []) }
+fn key(alloc: Global, number: u32) -> Result<Cells, Memory>
+    ensures { IfOk result (λ c. c ≡ record { column = codes "K"; value = Value.Int64 (pos number) } ∷ []) }
 {
     let mut cells = Items::new(alloc);
     cells.push(Cell {
         column: Text::of(alloc, "K")?,
-        value: Value::Int64(number),
+        value: Value::Int64(i64::from(number)),
     })?;
     Ok(Cells::in_order(cells))
 }
 
-fn change(alloc: Global, stamp: Stamp, number: i64) -> Result<Change, Memory>
+fn change(alloc: Global, stamp: Stamp, number: u32) -> Result<Change, Memory>
     ensures { IfOk result (λ c. c ≡ record {
       stamp = stamp;
       tx = codes "t1";
-      row = record { table = codes "T"; key = record { column = codes "K"; value = Value.Int64 number } ∷ [] };
+      row = record { table = codes "T"; key = record { column = codes "K"; value = Value.Int64 (pos number) } ∷ [] };
       kind = Kind.Insert;
       new = [];
       old = [];
@@ -67,12 +67,12 @@ fn change(alloc: Global, stamp: Stamp, number: i64) -> Result<Change, Memory>
     })
 }
 
-fn insert(alloc: Global, stamp: Stamp, number: i64) -> Result<Captured, Memory>
+fn insert(alloc: Global, stamp: Stamp, number: u32) -> Result<Captured, Memory>
     ensures { IfOk result (λ c. c ≡ record {
       change = record {
         stamp = stamp;
         tx = codes "t1";
-        row = record { table = codes "T"; key = record { column = codes "K"; value = Value.Int64 number } ∷ [] };
+        row = record { table = codes "T"; key = record { column = codes "K"; value = Value.Int64 (pos number) } ∷ [] };
         kind = Kind.Insert;
         new = [];
         old = [];
@@ -100,7 +100,7 @@ fn inserts(alloc: Global, stamp: Stamp) -> Result<Items<Captured>, Memory>
 {
     let mut items = Items::new(alloc);
     for number in 0..33u32 {
-        items.push(insert(alloc, stamp, i64::from(number))?)?;
+        items.push(insert(alloc, stamp, number)?)?;
     }
     Ok(items)
 }

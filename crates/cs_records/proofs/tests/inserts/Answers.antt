@@ -1,6 +1,6 @@
-use Rattle.std.proofs.Common.{◌≡◌, ◌∙◌, ap, arith}
+use Rattle.std.proofs.Common.{arith}
 use Rattle.std.proofs.lemmas.List.{length_push}
-use Rattle.cs_records.proofs.Inserts.{insert_at, all_agree, all_apart, all_columns, one_more}
+use Rattle.cs_records.proofs.Inserts.{all_agree, all_apart, all_columns, one_more}
 use Rattle.cs_records.proofs.tests.inserts.Goals as goal
 
 pub returns : goal.returns
@@ -15,6 +15,6 @@ pub loop-number-preserved : goal.loop-number-preserved
 loop-number-preserved c =
     rw c.in_ok-push.ensures.ok (record {
       inserts = one_more c.args.stamp c.loop-number.items c.in_ok-insert.field-0 c.loop-number.number c.loop-number.invariant.inserts c.loop-number.invariant.count
-          (c.in_ok-insert.ensures ∙ ap (insert_at c.args.stamp) c.from.ensures);
+          c.in_ok-insert.ensures;
       count = omega (arith, c.loop-number.invariant.count, length_push c.loop-number.items c.in_ok-insert.field-0);
     })
