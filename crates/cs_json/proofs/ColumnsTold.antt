@@ -1,7 +1,7 @@
 -- Columns and mods are read as what their trees tell.
-use Rattle.std.proofs.Common.{◌≡◌, ◌⊎◌, inl, inr, ℕ, List, [], ◌∷◌, codes, Bool, is_some, true, false, Option, Some, None, option_and_then, Result, Ok, Err, refl, ap, sym, ◌∙◌}
-use Rattle.serde_json.specs.Data.{Data, null, boolean, number, string, array, object, Items, no_items, item, Members, no_members, member}
-use Rattle.serde_json.specs.Find.{get, as_bool, as_null, as_str, as_array, as_object}
+use Rattle.std.proofs.Common.{◌≡◌, inl, inr, ℕ, List, [], ◌∷◌, codes, Bool, is_some, Option, Some, None, option_and_then, Result, Ok, Err, refl, ap, sym, ◌∙◌}
+use Rattle.serde_json.specs.Data.{Data, null, boolean, number, string, array, object, Members, no_members, member}
+use Rattle.serde_json.specs.Find.{get, as_bool, as_str, as_object}
 use Rattle.cs_types.specs.declared.cells.Cell.{Cell}
 use Rattle.cs_types.specs.declared.column_type.ColumnType.{ColumnType}
 use Rattle.cs_types.specs.declared.value.Value.{Value}
@@ -46,17 +46,23 @@ column_told d c h =
 pub column_read : (d : Data) (c : ColumnInfo) → TellsColumn c d → column_reading d ≡ Ok c
 unfolding column_reading
 column_read d c h =
-    rw (is_object as_str (codes "name") d c.name h.name, read_if_has as_str (codes "name") d c.name h.name,
-    read_if_has type_value (codes "type") d c.ty h.type,
-    read_if_has as_bool (codes "is_primary_key") d c.is_key h.is_primary_key,
-    read_if_has ordinal_value (codes "ordinal_position") d c.ordinal h.ordinal_position) refl
+    rw (
+      is_object as_str (codes "name") d c.name h.name,
+      read_if_has as_str (codes "name") d c.name h.name,
+      read_if_has type_value (codes "type") d c.ty h.type,
+      read_if_has as_bool (codes "is_primary_key") d c.is_key h.is_primary_key,
+      read_if_has ordinal_value (codes "ordinal_position") d c.ordinal h.ordinal_position,
+    ) refl
 
 pub column_lacks_nothing : (c : ColumnInfo) (d : Data) → TellsColumn c d → missing_in column_members d ≡ None
 column_lacks_nothing c d h =
-    rw (is_object as_str (codes "name") d c.name h.name, is_there as_str (codes "name") d c.name h.name,
-    is_there type_value (codes "type") d c.ty h.type,
-    is_there as_bool (codes "is_primary_key") d c.is_key h.is_primary_key,
-    is_there ordinal_value (codes "ordinal_position") d c.ordinal h.ordinal_position) refl
+    rw (
+      is_object as_str (codes "name") d c.name h.name,
+      is_there as_str (codes "name") d c.name h.name,
+      is_there type_value (codes "type") d c.ty h.type,
+      is_there as_bool (codes "is_primary_key") d c.is_key h.is_primary_key,
+      is_there ordinal_value (codes "ordinal_position") d c.ordinal h.ordinal_position,
+    ) refl
 
 -- ---- cells
 
@@ -71,6 +77,7 @@ cell_told columns name d c h = at (column_type name columns) refl h
       listed = listed;
       value = p ∙ (let same : v ≡ c.value = (let made : Ok v ≡ Ok c.value = ap (in_reading (λ (c : Cell). c.value)) h in cc) in ap Ok same);
     }
+
     at : (o : Option ColumnType) → column_type name columns ≡ o → cell_of_type name d o ≡ Ok c → TellsCell columns c name d
     at None e h = absurd (never _ c h)
     at (Some ty) e h = of ty e (value_reading ty d) refl h
@@ -101,6 +108,7 @@ tree_told columns name d cs h = at (tree_or_text d) refl h
     of : (e : Data) → tree_or_text d ≡ Some e → (o : Option Members) → as_object e ≡ o → cells_of_members columns name o ≡ Ok cs → TellsCells columns cs d
     of e p None q h = absurd (never _ cs h)
     of e p (Some ms) q h = record { members = ms; object = ap (option_and_then as_object) p ∙ q; each = cells_told columns ms cs h }
+
     at : (o : Option Data) → tree_or_text d ≡ o → cells_of_tree columns name o ≡ Ok cs → TellsCells columns cs d
     at None e h = absurd (never _ cs h)
     at (Some e) p h = of e p (as_object e) refl h
@@ -127,6 +135,7 @@ may_have_if_read columns name d cs h = at (get name d) refl h
   where
     has : (e : Data) → get name d ≡ Some e → cells_of columns name e ≡ Ok cs → MayHaveCells columns name d cs
     has e p h = inr (inr (record { tree = e; there = p; tells = tree_told columns name e cs h }))
+
     at : (o : Option Data) → get name d ≡ o → optional_cells columns name o ≡ Ok cs → MayHaveCells columns name d cs
     at None e h = inl (e, (let same : [] ≡ cs = cc in sym same))
     at (Some null) e h = inr (inl (e, (let same : [] ≡ cs = cc in sym same)))
@@ -173,8 +182,12 @@ mod_told columns d m h =
 pub mod_read : (columns : List ColumnInfo) (d : Data) (m : Mod) → TellsMod columns m d → mod_reading columns d ≡ Ok m
 unfolding mod_reading
 mod_read columns d m h =
-    rw (object_with (codes "keys") d h.keys.tree h.keys.there, read_if_has_cells columns (codes "keys") d m.keys h.keys,
-    read_if_may_have columns (codes "new_values") d m.new h.new_values, read_if_may_have columns (codes "old_values") d m.old h.old_values) refl
+    rw (
+      object_with (codes "keys") d h.keys.tree h.keys.there,
+      read_if_has_cells columns (codes "keys") d m.keys h.keys,
+      read_if_may_have columns (codes "new_values") d m.new h.new_values,
+      read_if_may_have columns (codes "old_values") d m.old h.old_values,
+    ) refl
 
 pub mod_lacks_nothing : (columns : List ColumnInfo) (m : Mod) (d : Data) → TellsMod columns m d → missing_in (codes "keys" ∷ []) d ≡ None
 mod_lacks_nothing columns m d h = rw (object_with (codes "keys") d h.keys.tree h.keys.there, h.keys.there) refl

@@ -1,10 +1,10 @@
 -- What a member is read as is what it tells, and the other way round.
-use Rattle.std.proofs.Common.{◌≡◌, ◌⊎◌, inl, inr, ℕ, List, [], ◌∷◌, Bool, true, false, is_some, if◌then◌else◌, Option, Some, None, option_and_then, Result, Ok, Err, refl, ap, sym, subst, ◌∙◌, arith, rules}
+use Rattle.std.proofs.Common.{◌≡◌, inl, inr, ℕ, List, [], ◌∷◌, Bool, true, false, is_some, if◌then◌else◌, Option, Some, None, option_and_then, Ok, Err, refl, ap, sym, ◌∙◌}
 use Rattle.serde_json.specs.Data.{Data, null, boolean, number, string, array, object, Items, no_items, item}
 use Rattle.serde_json.specs.Find.{get, as_array, as_object}
 use Rattle.cs_records.specs.declared.faults.LineFault.{LineFault}
 use Rattle.cs_json.specs.Reading.{Reading, or_bad, of_member, required, if_there, optional, first_and, each, each_in}
-use Rattle.cs_json.specs.Missing.{absent, first_of, elements}
+use Rattle.cs_json.specs.Missing.{first_of, elements}
 use Rattle.cs_json.specs.Telling.{Has, HasOr, Each, HasEach}
 
 -- ---- readings

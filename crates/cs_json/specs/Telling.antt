@@ -1,5 +1,5 @@
 -- What the members of a tree tell of a record, member by member (the members are those of Spanner's page 'Change streams partitions, records, and queries'; how one stands as JSON is this project's own).
-use Rattle.std.specs.Prelude.{◌≡◌, ◌≢◌, ◌⊎◌, ℕ, List, [], ◌∷◌, Bool, false, codes, ⊤, Option, Some, None, option_and_then}
+use Rattle.std.specs.Prelude.{◌≡◌, ◌≢◌, ◌⊎◌, ℕ, List, [], ◌∷◌, false, codes, ⊤, Option, Some, None, option_and_then}
 use Rattle.serde_json.specs.Data.{Data, null, array, Items, no_items, item, Members, no_members, member}
 use Rattle.serde_json.specs.Find.{get, as_bool, as_str, as_array, as_object}
 use Rattle.cs_types.specs.declared.cells.Cell.{Cell}
