@@ -1,5 +1,9 @@
+pub mod Agreement
+pub mod Distinct
 pub mod Ending
+pub mod Good
 pub mod Indexing
 pub mod Lines
 pub mod Next
+pub mod Offences
 pub mod Standing

@@ -115,3 +115,12 @@ IsVerdict (Extra number) lines wanted end = IsFirst IsExtra number lines wanted 
 IsVerdict (OutOfOrder number) lines wanted end = IsFirst IsOutOfOrder number lines wanted end
 IsVerdict (WatermarkEarly number c) lines wanted end = IsFirst (IsEarly c) number lines wanted end
 IsVerdict (WatermarkBack number) lines wanted end = IsFirst IsBack number lines wanted end
+
+-- the verdict is that something is still to come
+abbrev pub SaysPrefix : Verdict → Type 0
+SaysPrefix Complete = ⊥
+SaysPrefix (Prefix last) = ⊤
+SaysPrefix (Extra number) = ⊥
+SaysPrefix (OutOfOrder number) = ⊥
+SaysPrefix (WatermarkEarly number c) = ⊥
+SaysPrefix (WatermarkBack number) = ⊥

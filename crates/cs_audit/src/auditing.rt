@@ -1,6 +1,8 @@
 // The audit, line by line.
-ghost use Rattle.std.specs.Prelude.{◌≡◌, ◌∷◌, ◌++◌, ◌↔◌, [], List, IfOk, IsTrue};
-ghost use Rattle.cs_audit.specs.Audit.{HaveOwnLines, AreApart, IsVerdict};
+ghost use Rattle.std.specs.Prelude.{◌≡◌, ◌∷◌, ◌++◌, ◌↔◌, [], ℕ, List, IfOk, IsTrue};
+ghost use Rattle.cs_output.specs.Output.{IsGood, IsComplete};
+ghost use Rattle.cs_output.specs.Reading.{AreLinesOf};
+ghost use Rattle.cs_audit.specs.Audit.{HaveOwnLines, AreApart, IsVerdict, SaysPrefix};
 ghost use Rattle.cs_audit.specs.Index.{DifferInLines, IsTellable, Tells};
 ghost use Rattle.cs_output.specs.declared.reading.Line.{Line};
 
@@ -25,7 +27,10 @@ pub fn audit(
     requires own_lines { HaveOwnLines wanted.now }
     requires apart { AreApart wanted.now }
     ensures verdict { IfOk result (λ v. IsVerdict v lines.now wanted.now end) }
+    ensures complete { (bytes : List ℕ) → AreLinesOf bytes lines.now → IfOk result (λ v. (v ≡ Verdict.Complete) ↔ IsComplete bytes wanted.now end) }
+    ensures prefix { (bytes : List ℕ) → AreLinesOf bytes lines.now → IfOk result (λ v. SaysPrefix v ↔ (IsGood bytes wanted.now end × (IsComplete bytes wanted.now end → ⊥))) }
 {
+    prove!(end.us() <= Stamp::GREATEST);
     judge(alloc, lines, wanted, end)
 }
 
