@@ -1,5 +1,5 @@
 -- The map of places, and what stands at a place.
-use Rattle.std.proofs.Common.{◌≡◌, ◌∙◌, sym, ap, refl, ℕ, suc, List, [], ◌∷◌, ◌++◌, length, Some, None, cond, false, true, Bool, is_some, true≢false, rules}
+use Rattle.std.proofs.Common.{◌≡◌, ◌∙◌, ◌<◌, sym, ap, refl, ℕ, zero, suc, arith, get_or, List, [], ◌∷◌, ◌++◌, length, Some, None, cond, false, true, Bool, is_some, true≢false, rules}
 use Rattle.std.specs.declared.option.Option.{Option}
 use Rattle.std.specs.declared.cmp.Ordering.{Ordering}
 use Rattle.std.specs.declared.cmp.Ordering.TheVariants.{Less, Equal, Greater}
@@ -12,15 +12,11 @@ use Rattle.cs_types.specs.Row.{row_cmp}
 use Rattle.cs_txn.specs.declared.txn.Modification.{Modification}
 use Rattle.cs_schema.specs.Tables.{flat, next_place}
 use Rattle.cs_txn.specs.History.{last_of}
-use Rattle.cs_txn.specs.Places.{last_place, PlacesOf}
+use Rattle.cs_txn.specs.Places.{last_place, standing, lasts_of, lasts_in, place_at, PlacesOf}
+use Rattle.cs_txn.specs.declared.txn.Write.{Write}
 use Rattle.cs_schema.specs.Names.{or_this}
 use Rattle.cs_types.specs.Row.{same_row}
 use Rattle.cs_types.proofs.SameRow.{same_row-is}
-
--- what stands at a place, if there is one
-abbrev pub standing : List Modification → Option ℕ → Option Modification
-standing ms None = None
-standing ms (Some i) = slice_get ms i
 
 -- a place that is there has a modification
 Fits : List Modification → Option ℕ → Type 0
@@ -72,3 +68,17 @@ pub places_more : (m n : BTreeMap RowName (Option ℕ)) (ms : List Modification)
 places_more m n ms x h u q =
     ap flat (u q) ∙ flat_cond (is_at (row_cmp x.row) q) (length ms) (get row_cmp m q)
     ∙ ap (cond (is_at (row_cmp x.row) q) (Some (length ms))) (h q) ∙ sym (place_more q ms x)
+
+-- the places of a transaction's rows
+
+pub lasts_alike : (rows : BTreeMap RowName (Option ℕ)) (ms : List Modification) (ws : List Write) → PlacesOf ms rows → lasts_in rows ws ≡ lasts_of ms ws
+lasts_alike rows ms [] h = refl
+lasts_alike rows ms (w ∷ ws) h = ap (λ p. p ∷ lasts_in rows ws) (h w.row) ∙ ap (λ l. last_place w.row ms ∷ l) (lasts_alike rows ms ws h)
+
+one_stands : (ms : List Modification) (ws : List Write) (i : ℕ) (w : Write) → i < length ws → w ≡ get_or ws i w → standing ms (place_at (lasts_of ms ws) i) ≡ last_of w.row ms
+one_stands ms [] i w lt e = absurd (omega (arith, lt))
+one_stands ms (v ∷ ws) zero w lt e = (last_stands v.row ms).0 ∙ ap (λ (x : Write). last_of x.row ms) (sym e)
+one_stands ms (v ∷ ws) (suc i) w lt e = one_stands ms ws i w (omega (arith, lt)) e
+
+pub stands_at : (ms : List Modification) (ws : List Write) (lasts : List (Option ℕ)) (i : ℕ) (w : Write) → lasts ≡ lasts_of ms ws → i < length ws → w ≡ get_or ws i w → standing ms (place_at lasts i) ≡ last_of w.row ms
+stands_at ms ws lasts i w is lt e = ap (λ l. standing ms (place_at l i)) is ∙ one_stands ms ws i w lt e

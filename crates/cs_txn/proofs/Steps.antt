@@ -1,5 +1,5 @@
 -- One step of each loop over a list.
-use Rattle.std.proofs.Common.{◌≡◌, ◌∙◌, sym, ap, subst, refl, ℕ, ◌+◌, ◌<◌, List, [], ◌∷◌, ◌++◌, length, take, drop, get_or, Some, cond, false, true, Bool, is_some, arith, append_assoc}
+use Rattle.std.proofs.Common.{◌≡◌, ◌∙◌, sym, ap, subst, refl, ℕ, ◌+◌, ◌<◌, List, [], ◌∷◌, ◌++◌, length, take, drop, get_or, Some, None, cond, false, true, Bool, is_some, arith, append_assoc}
 use Rattle.std.specs.declared.option.Option.{Option}
 use Rattle.std.specs.Option.{IsSome}
 use Rattle.std.specs.BTreeMap.{BTreeMap, get, is_at}
@@ -99,3 +99,8 @@ pub twice_here : (ws : List Write) (i : ℕ) (w : Write) → i < length ws → w
     → twice_behind (take i ws) (drop i ws) ≡ Some (RowTwice w.row)
 twice_here ws i w lt e t =
     ap (twice_behind (take i ws)) (drop_next ws i w lt e) ∙ ap (λ b. cond b (Some (RowTwice w.row)) (twice_behind (take i ws ++ w ∷ []) (drop (i + 1) ws))) t
+
+pub one_once : (ws : List Write) → length ws < 2 → twice_behind [] ws ≡ None
+one_once [] lt = refl
+one_once (w ∷ []) lt = refl
+one_once (w ∷ v ∷ ws) lt = absurd (omega (arith, lt))

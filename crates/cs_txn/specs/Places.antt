@@ -1,5 +1,5 @@
 -- What the maps beside a history's list hold: for each row the place of its last modification, and the ids that are used.
-use Rattle.std.specs.Prelude.{◌≡◌, ℕ, List, [], ◌∷◌, Some, None, cond, is_some, IsSome}
+use Rattle.std.specs.Prelude.{◌≡◌, ℕ, List, [], ◌∷◌, Some, None, cond, is_some, IsSome, slice_get}
 use Rattle.std.specs.declared.option.Option.{Option}
 use Rattle.std.specs.Ordering.{nat_cmp}
 use Rattle.std.specs.Cmp.Lexicographic.{slice_cmp}
@@ -8,6 +8,7 @@ use Rattle.cs_types.specs.declared.change.RowName.{RowName}
 use Rattle.cs_types.specs.Row.{row_cmp, same_row}
 use Rattle.cs_schema.specs.Names.{or_this}
 use Rattle.cs_schema.specs.Tables.{next_place, flat}
+use Rattle.cs_txn.specs.declared.txn.Write.{Write}
 use Rattle.cs_txn.specs.declared.txn.Modification.{Modification}
 use Rattle.cs_txn.specs.History.{is_used}
 
@@ -19,6 +20,24 @@ last_place row (m ∷ ms) = or_this (next_place (last_place row ms)) (cond (same
 -- the map has of each row the place of its last modification; a row may stand in it with nothing
 abbrev pub PlacesOf : List Modification → BTreeMap RowName (Option ℕ) → Type 0
 PlacesOf ms rows = (row : RowName) → flat (get row_cmp rows row) ≡ last_place row ms
+
+-- what stands at a place, if there is one
+abbrev pub standing : List Modification → Option ℕ → Option Modification
+standing ms None = None
+standing ms (Some place) = slice_get ms place
+
+-- for each write the place of its row's last modification
+abbrev pub lasts_of : List Modification → List Write → List (Option ℕ)
+lasts_of ms [] = []
+lasts_of ms (w ∷ ws) = last_place w.row ms ∷ lasts_of ms ws
+
+-- the like, as the map has it
+abbrev pub lasts_in : BTreeMap RowName (Option ℕ) → List Write → List (Option ℕ)
+lasts_in rows [] = []
+lasts_in rows (w ∷ ws) = flat (get row_cmp rows w.row) ∷ lasts_in rows ws
+
+abbrev pub place_at : List (Option ℕ) → ℕ → Option ℕ
+place_at lasts i = flat (slice_get lasts i)
 
 -- the map has the ids of the transactions
 abbrev pub IdsOf : List Modification → BTreeMap (List ℕ) (Unit {0}) → Type 0

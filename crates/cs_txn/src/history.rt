@@ -4,7 +4,7 @@ ghost use Rattle.cs_txn.specs.Faults.{not_memory};
 ghost use Rattle.cs_txn.specs.Sizes.{first_fault};
 
 use crate::refusals::check;
-use crate::rows::{put_all, rooms};
+use crate::rows::{lasts, put_all, rooms};
 use crate::sizes::{weights, with_added};
 use crate::writes::modifications;
 use crate::{Modification, Txn, TxnFault};
@@ -70,16 +70,10 @@ impl History {
     {
         let alloc = *self.items.allocator();
         let tables = catalog.tables();
-        check(
-            alloc,
-            tables,
-            &self.rows,
-            &self.ids,
-            self.last,
-            self.items.as_slice(),
-            txn,
-        )?;
-        let mut added = modifications(alloc, tables, &self.rows, self.items.as_slice(), txn)?;
+        let lasts = lasts(alloc, &self.rows, txn.writes.as_slice())?;
+        let items = self.items.as_slice();
+        check(alloc, tables, &self.ids, self.last, items, &lasts, txn)?;
+        let mut added = modifications(alloc, tables, items, txn, &lasts)?;
         let sizes = weights(alloc, added.as_slice())?;
         let size = match with_added(self.size, sizes.as_slice()) {
             Some(size) => size,

@@ -1,27 +1,23 @@
 ghost use Rattle.std.specs.Prelude.{◌≡◌, MatchResult, None, Some, []};
-ghost use Rattle.cs_txn.specs.Places.{PlacesOf, IdsOf};
-ghost use Rattle.cs_txn.specs.History.{last_stamp};
+ghost use Rattle.cs_txn.specs.Places.{IdsOf, standing, lasts_of};
+ghost use Rattle.cs_txn.specs.History.{last_of, last_stamp};
 ghost use Rattle.cs_txn.specs.Faults.{not_memory, row_fault, write_fault, first_of, there_fault, absent_fault, shared_fault, twice_behind};
 
 use crate::columns::{all_good, all_named, all_tables, no_keys};
-use crate::rows::last_at;
+use crate::rows::{place_at, standing_at};
 use crate::writes::state;
 use crate::{Modification, Txn, TxnFault, Write};
 use cs_schema::Tables;
-use cs_types::{Duplicate, Kind, RowName, Stamp, Text};
+use cs_types::{Duplicate, Kind, Stamp, Text};
 use std::alloc::Global;
 use std::collections::BTreeMap;
 
-fn there(
-    rows: &BTreeMap<RowName, Option<usize>>,
-    items: &[Modification],
-    write: &Write,
-) -> Result<(), TxnFault>
-    requires { PlacesOf items.now rows.now }
+fn there(items: &[Modification], last: Option<usize>, write: &Write) -> Result<(), TxnFault>
+    requires { standing items.now last ≡ last_of write.now.row items.now }
     ensures { MatchResult result (λ _. there_fault items.now write.now ≡ None) (λ e. not_memory e → there_fault items.now write.now ≡ Some e) }
 {
     match write.kind {
-        Kind::Insert => match state(rows, items, &write.row) {
+        Kind::Insert => match state(items, last) {
             Some(_) => Err(TxnFault::RowThere(write.row.copy()?)),
             None => Ok(()),
         },
@@ -31,30 +27,27 @@ fn there(
 }
 
 fn all_there(
-    rows: &BTreeMap<RowName, Option<usize>>,
     items: &[Modification],
+    lasts: &[Option<usize>],
     writes: &[Write],
 ) -> Result<(), TxnFault>
-    requires { PlacesOf items.now rows.now }
+    requires { lasts.now ≡ lasts_of items.now writes.now }
     ensures { MatchResult result (λ _. first_of (there_fault items.now) writes.now ≡ None) (λ e. not_memory e → first_of (there_fault items.now) writes.now ≡ Some e) }
 {
-    for write in writes {
-        there(rows, items, write)?;
+    for index in 0..writes.len() {
+        let last = place_at(lasts, index);
+        there(items, last, &writes[index])?;
     }
     Ok(())
 }
 
-fn absent(
-    rows: &BTreeMap<RowName, Option<usize>>,
-    items: &[Modification],
-    write: &Write,
-) -> Result<(), TxnFault>
-    requires { PlacesOf items.now rows.now }
+fn absent(items: &[Modification], last: Option<usize>, write: &Write) -> Result<(), TxnFault>
+    requires { standing items.now last ≡ last_of write.now.row items.now }
     ensures { MatchResult result (λ _. absent_fault items.now write.now ≡ None) (λ e. not_memory e → absent_fault items.now write.now ≡ Some e) }
 {
     match write.kind {
         Kind::Insert => Ok(()),
-        _ => match state(rows, items, &write.row) {
+        _ => match state(items, last) {
             Some(_) => Ok(()),
             None => Err(TxnFault::NoRow(write.row.copy()?)),
         },
@@ -62,29 +55,30 @@ fn absent(
 }
 
 fn all_absent(
-    rows: &BTreeMap<RowName, Option<usize>>,
     items: &[Modification],
+    lasts: &[Option<usize>],
     writes: &[Write],
 ) -> Result<(), TxnFault>
-    requires { PlacesOf items.now rows.now }
+    requires { lasts.now ≡ lasts_of items.now writes.now }
     ensures { MatchResult result (λ _. first_of (absent_fault items.now) writes.now ≡ None) (λ e. not_memory e → first_of (absent_fault items.now) writes.now ≡ Some e) }
 {
-    for write in writes {
-        absent(rows, items, write)?;
+    for index in 0..writes.len() {
+        let last = place_at(lasts, index);
+        absent(items, last, &writes[index])?;
     }
     Ok(())
 }
 
 fn shared(
-    rows: &BTreeMap<RowName, Option<usize>>,
     items: &[Modification],
     stamp: Stamp,
+    last: Option<usize>,
     write: &Write,
 ) -> Result<(), TxnFault>
-    requires { PlacesOf items.now rows.now }
+    requires { standing items.now last ≡ last_of write.now.row items.now }
     ensures { MatchResult result (λ _. shared_fault items.now stamp write.now ≡ None) (λ e. not_memory e → shared_fault items.now stamp write.now ≡ Some e) }
 {
-    match last_at(rows, items, &write.row) {
+    match standing_at(items, last) {
         Some(item) => {
             if item.stamp.us() == stamp.us() {
                 return Err(TxnFault::SharedStampRow(item.tx.copy()?));
@@ -96,16 +90,17 @@ fn shared(
 }
 
 fn all_shared(
-    rows: &BTreeMap<RowName, Option<usize>>,
     items: &[Modification],
     stamp: Stamp,
+    lasts: &[Option<usize>],
     writes: &[Write],
 ) -> Result<(), TxnFault>
-    requires { PlacesOf items.now rows.now }
+    requires { lasts.now ≡ lasts_of items.now writes.now }
     ensures { MatchResult result (λ _. first_of (shared_fault items.now stamp) writes.now ≡ None) (λ e. not_memory e → first_of (shared_fault items.now stamp) writes.now ≡ Some e) }
 {
-    for write in writes {
-        shared(rows, items, stamp, write)?;
+    for index in 0..writes.len() {
+        let last = place_at(lasts, index);
+        shared(items, stamp, last, &writes[index])?;
     }
     Ok(())
 }
@@ -113,6 +108,9 @@ fn all_shared(
 fn twice(alloc: Global, writes: &[Write]) -> Result<(), TxnFault>
     ensures { MatchResult result (λ _. twice_behind [] writes.now ≡ None) (λ e. not_memory e → twice_behind [] writes.now ≡ Some e) }
 {
+    if let [_] = writes {
+        return Ok(());
+    }
     let mut seen = BTreeMap::new(alloc);
     for write in writes {
         if seen.contains_key(&write.row) {
@@ -126,13 +124,13 @@ fn twice(alloc: Global, writes: &[Write]) -> Result<(), TxnFault>
 /// The refusals of ids, stamps and rows, in their order.
 fn check_rows(
     alloc: Global,
-    rows: &BTreeMap<RowName, Option<usize>>,
     ids: &BTreeMap<Text, ()>,
     last: u64,
     items: &[Modification],
+    lasts: &[Option<usize>],
     txn: &Txn,
 ) -> Result<(), TxnFault>
-    requires places { PlacesOf items.now rows.now }
+    requires lasts { lasts.now ≡ lasts_of items.now txn.now.writes }
     requires ids { IdsOf items.now ids.now }
     requires last { last ≡ last_stamp items.now }
     ensures { MatchResult result (λ _. row_fault items.now txn.now ≡ None) (λ e. not_memory e → row_fault items.now txn.now ≡ Some e) }
@@ -145,8 +143,8 @@ fn check_rows(
     }
     let writes = txn.writes.as_slice();
     twice(alloc, writes)?;
-    all_there(rows, items, writes)?;
-    all_absent(rows, items, writes)?;
+    all_there(items, lasts, writes)?;
+    all_absent(items, lasts, writes)?;
     Ok(())
 }
 
@@ -154,22 +152,22 @@ fn check_rows(
 pub(crate) fn check(
     alloc: Global,
     tables: &Tables,
-    rows: &BTreeMap<RowName, Option<usize>>,
     ids: &BTreeMap<Text, ()>,
     last: u64,
     items: &[Modification],
+    lasts: &[Option<usize>],
     txn: &Txn,
 ) -> Result<(), TxnFault>
-    requires places { PlacesOf items.now rows.now }
+    requires lasts { lasts.now ≡ lasts_of items.now txn.now.writes }
     requires ids { IdsOf items.now ids.now }
     requires last { last ≡ last_stamp items.now }
     ensures { MatchResult result (λ _. write_fault tables.now items.now txn.now ≡ None) (λ e. not_memory e → write_fault tables.now items.now txn.now ≡ Some e) }
 {
-    check_rows(alloc, rows, ids, last, items, txn)?;
+    check_rows(alloc, ids, last, items, lasts, txn)?;
     let writes = txn.writes.as_slice();
     all_good(alloc, tables, writes)?;
     no_keys(alloc, tables, writes)?;
-    all_shared(rows, items, txn.stamp, writes)?;
+    all_shared(items, txn.stamp, lasts, writes)?;
     all_tables(tables, writes)?;
     all_named(alloc, tables, writes)?;
     Ok(())

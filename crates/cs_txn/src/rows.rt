@@ -1,26 +1,55 @@
-ghost use Rattle.std.specs.Prelude.{◌≡◌, ◌+◌, ◌<◌, ◌++◌, ◌∷◌, [], ℕ, List, length, IsSome, OnOk, Some, None, cond, All, option_copied, slice_get, ◌^◌};
+ghost use Rattle.std.specs.Prelude.{◌≡◌, ◌+◌, ◌<◌, ◌++◌, ◌∷◌, [], ℕ, List, length, IsSome, IfOk, OnOk, Some, None, cond, All, option_copied, slice_get, ◌^◌};
 ghost use Rattle.std.specs.BTreeMap.{get, is_at};
 ghost use Rattle.cs_types.specs.Row.{row_cmp};
 ghost use Rattle.cs_types.specs.declared.change.RowName.{RowName as row_name};
 ghost use Rattle.cs_schema.specs.Tables.{flat};
-ghost use Rattle.cs_txn.specs.History.{last_of};
-ghost use Rattle.cs_txn.specs.Places.{PlacesOf, last_place, HaveRoom};
+ghost use Rattle.cs_txn.specs.Places.{PlacesOf, last_place, standing, lasts_in, place_at, HaveRoom};
 
-use crate::Modification;
+use crate::{Modification, Write};
 use cs_types::{Duplicate, Memory, RowName};
+use std::alloc::Global;
 use std::collections::BTreeMap;
 
-/// The last modification of a row.
-pub(crate) fn last_at<'a>(
-    rows: &BTreeMap<RowName, Option<usize>>,
-    items: &'a [Modification],
-    row: &RowName,
-) -> Option<&'a Modification>
-    requires { PlacesOf items.now rows.now }
-    ensures { option_copied result ≡ last_of row.now items.now }
+/// The modification at a place, if there is one.
+pub(crate) fn standing_at(items: &[Modification], last: Option<usize>) -> Option<&Modification>
+    ensures { option_copied result ≡ standing items.now last }
+{
+    match last {
+        Some(place) => item_at(items, place),
+        None => None,
+    }
+}
+
+fn place_of(rows: &BTreeMap<RowName, Option<usize>>, row: &RowName) -> Option<usize>
+    ensures { result ≡ flat (get row_cmp rows.now row.now) }
 {
     match rows.get(row) {
-        Some(Some(place)) => item_at(items, *place),
+        Some(Some(place)) => Some(*place),
+        _ => None,
+    }
+}
+
+/// For each write the place of its row's last modification: each row is looked up once.
+pub(crate) fn lasts(
+    alloc: Global,
+    rows: &BTreeMap<RowName, Option<usize>>,
+    writes: &[Write],
+) -> Result<Vec<Option<usize>>, Memory>
+    ensures { IfOk result (λ l. l.items ≡ lasts_in rows.now writes.now) }
+{
+    let mut lasts = Vec::new(alloc);
+    for write in writes {
+        lasts.push(place_of(rows, &write.row))?;
+    }
+    Ok(lasts)
+}
+
+/// The place of an index.
+pub(crate) fn place_at(lasts: &[Option<usize>], index: usize) -> Option<usize>
+    ensures { result ≡ place_at lasts.now index }
+{
+    match lasts.get(index) {
+        Some(Some(place)) => Some(*place),
         _ => None,
     }
 }

@@ -1,25 +1,19 @@
 ghost use Rattle.std.specs.Prelude.{◌≡◌, IfOk, option_copied};
-ghost use Rattle.cs_txn.specs.History.{state_before, modification_of, modifications_of, columns_of};
-ghost use Rattle.cs_txn.specs.Places.{PlacesOf};
+ghost use Rattle.cs_txn.specs.History.{last_of, left_of, modification_of, modifications_of, columns_of};
+ghost use Rattle.cs_txn.specs.Places.{standing, lasts_of};
 
 use crate::left::{free_columns, left, row_as_is};
-use crate::rows::last_at;
+use crate::rows::{place_at, standing_at};
 use crate::{Modification, Txn, Write};
 use cs_schema::Tables;
-use cs_types::{Cells, Duplicate, Items, Kind, Memory, RowName, Text};
+use cs_types::{Cells, Duplicate, Items, Kind, Memory, Text};
 use std::alloc::Global;
-use std::collections::BTreeMap;
 
 /// The row's cells; nothing where it is absent.
-pub(crate) fn state<'a>(
-    rows: &BTreeMap<RowName, Option<usize>>,
-    items: &'a [Modification],
-    row: &RowName,
-) -> Option<&'a Cells>
-    requires { PlacesOf items.now rows.now }
-    ensures { option_copied result ≡ state_before items.now row.now }
+pub(crate) fn state(items: &[Modification], last: Option<usize>) -> Option<&Cells>
+    ensures { option_copied result ≡ left_of (standing items.now last) }
 {
-    match last_at(rows, items, row) {
+    match standing_at(items, last) {
         Some(item) => match item.kind {
             Kind::Delete => None,
             _ => Some(&item.after),
@@ -41,16 +35,16 @@ fn columns(alloc: Global, cells: &Cells) -> Result<Items<Text>, Memory>
 fn modification(
     alloc: Global,
     tables: &Tables,
-    rows: &BTreeMap<RowName, Option<usize>>,
     items: &[Modification],
     txn: &Txn,
+    last: Option<usize>,
     write: &Write,
 ) -> Result<Modification, Memory>
-    requires { PlacesOf items.now rows.now }
+    requires { standing items.now last ≡ last_of write.now.row items.now }
     ensures { IfOk result (λ m. m ≡ modification_of tables.now items.now txn.now write.now) }
 {
     let free = free_columns(alloc, tables, &write.row.table)?;
-    let before = state(rows, items, &write.row);
+    let before = state(items, last);
     Ok(Modification {
         stamp: txn.stamp,
         tx: txn.tx.copy()?,
@@ -67,16 +61,19 @@ fn modification(
 pub(crate) fn modifications(
     alloc: Global,
     tables: &Tables,
-    rows: &BTreeMap<RowName, Option<usize>>,
     items: &[Modification],
     txn: &Txn,
+    lasts: &[Option<usize>],
 ) -> Result<Vec<Modification>, Memory>
-    requires { PlacesOf items.now rows.now }
+    requires { lasts.now ≡ lasts_of items.now txn.now.writes }
     ensures { IfOk result (λ added. added.items ≡ modifications_of tables.now items.now txn.now) }
 {
     let mut added = Vec::new(alloc);
-    for write in txn.writes.as_slice() {
-        added.push(modification(alloc, tables, rows, items, txn, write)?)?;
+    let writes = txn.writes.as_slice();
+    for index in 0..writes.len() {
+        let last = place_at(lasts, index);
+        let write = &writes[index];
+        added.push(modification(alloc, tables, items, txn, last, write)?)?;
     }
     Ok(added)
 }

@@ -1,7 +1,7 @@
 use Rattle.std.proofs.Common.{rules, ◌≡◌, ◌∙◌, sym, ap, true, false, take, Some}
 use Rattle.cs_txn.specs.Faults.{is_named}
 use Rattle.cs_txn.specs.declared.fault.TxnFault.TheVariants.{RowTwice}
-use Rattle.cs_txn.proofs.Steps.{names_step, twice_step, twice_here}
+use Rattle.cs_txn.proofs.Steps.{names_step, twice_step, twice_here, one_once}
 use Rattle.cs_txn.proofs.refusals.twice.Goals as goal
 
 pub returns-then-contains_key : goal.returns-then-contains_key
@@ -16,3 +16,6 @@ loop-write-preserved c =
       names = names_step c.loop-write.seen c.insert.new.self c.args.writes.now c.loop-write.write-index c.write-item.result (search rules) (search rules) c.loop-write.invariant.names (λ q. search rules);
       rest = twice_step c.args.writes.now c.loop-write.write-index c.write-item.result (search rules) (search rules) unnamed ∙ c.loop-write.invariant.rest;
     }
+
+pub returns-in-len1 : goal.returns-in-len1
+returns-in-len1 c = one_once c.args.writes.now c.in-len1.len_below

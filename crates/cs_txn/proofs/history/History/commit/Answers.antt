@@ -2,13 +2,26 @@ use Rattle.std.proofs.Common.{rules, ◌≡◌, ◌∙◌, ap, sym, subst, List,
 use Rattle.cs_schema.specs.declared.types.Table.{Table}
 use Rattle.cs_txn.specs.declared.txn.Modification.{Modification}
 use Rattle.cs_txn.specs.History.{last_stamp, modifications_of, IsHistory}
-use Rattle.cs_txn.specs.Places.{PlacesOf, IdsOf, last_place}
+use Rattle.cs_txn.specs.Places.{PlacesOf, IdsOf, last_place, lasts_in, lasts_of}
 use Rattle.cs_txn.specs.Faults.{write_fault}
 use Rattle.cs_txn.specs.Sizes.{history_size, history_limit, weights_of, total}
 use Rattle.cs_txn.proofs.Weights.{history_size-append}
+use Rattle.cs_txn.proofs.Places.{lasts_alike}
 use Rattle.cs_txn.proofs.Kept.{history_kept}
 use Rattle.cs_txn.proofs.Adding.{ids_added, stamp_added}
 use Rattle.cs_txn.proofs.history.History.commit.Goals as goal
+
+pub check-requires-clause-lasts : goal.check-requires-clause-lasts
+check-requires-clause-lasts c =
+    let found : c.deref.result.now ≡ lasts_in c.self.inside.rows c.args.txn.now.writes = search rules in
+    let items : c.as_slice-items.result.now ≡ c.self.inside.items.items = search rules in
+    found ∙ lasts_alike c.self.inside.rows c.self.inside.items.items c.args.txn.now.writes c.self.invariant.0 ∙ ap (λ l. lasts_of l c.args.txn.now.writes) (sym items)
+
+pub modifications-requires : goal.modifications-requires
+modifications-requires c =
+    let found : c.deref-2.result.now ≡ lasts_in c.self.inside.rows c.args.txn.now.writes = search rules in
+    let items : c.as_slice-items.result.now ≡ c.self.inside.items.items = search rules in
+    found ∙ lasts_alike c.self.inside.rows c.self.inside.items.items c.args.txn.now.writes c.self.invariant.0 ∙ ap (λ l. lasts_of l c.args.txn.now.writes) (sym items)
 
 pub invariant_of-self-2 : goal.invariant_of-self-2
 invariant_of-self-2 c =
@@ -16,12 +29,12 @@ invariant_of-self-2 c =
     let tables : List Table = c.args.catalog.now.tables in
     let is : c.append.new.self.items ≡ old ++ modifications_of tables old c.args.txn.now = search rules in
     let some : modifications_of tables old c.args.txn.now ≡ [] → ⊥ = λ e. search rules in
-    let both : c.as_slice-6.result.now ++ c.as_slice-7.result.now ≡ old ++ modifications_of tables old c.args.txn.now = search rules in
+    let both : c.as_slice-5.result.now ++ c.as_slice-6.result.now ≡ old ++ modifications_of tables old c.args.txn.now = search rules in
     let places : PlacesOf (old ++ modifications_of tables old c.args.txn.now) c.put_all.new.rows = λ row. c.put_all.ensures row ∙ ap (last_place row) both in
     let unrefused : write_fault tables old c.args.txn.now ≡ None = search rules in
-    let weighed : c.as_slice-4.result.now ≡ weights_of (modifications_of tables old c.args.txn.now) = search rules in
+    let weighed : c.as_slice-3.result.now ≡ weights_of (modifications_of tables old c.args.txn.now) = search rules in
     let sum : c.in-Some.size ≡ history_size (old ++ modifications_of tables old c.args.txn.now) =
-    c.in-Some.ensures.0 ∙ ap (λ n. n + total c.as_slice-4.result.now) c.self.invariant.4 ∙ ap (λ l. history_size old + total l) weighed ∙ sym (history_size-append old (modifications_of tables old c.args.txn.now)) in
+    c.in-Some.ensures.0 ∙ ap (λ n. n + total c.as_slice-3.result.now) c.self.invariant.4 ∙ ap (λ l. history_size old + total l) weighed ∙ sym (history_size-append old (modifications_of tables old c.args.txn.now)) in
     let within : c.in-Some.size ≤ history_limit = c.in-Some.ensures.1 in
     let P : List Modification → Type 0 = λ ms. PlacesOf ms c.put_all.new.rows × IdsOf ms c.insert.new.self × (c.us-self-inside.result ≡ last_stamp ms) × IsHistory ms × (c.in-Some.size ≡ history_size ms) × (c.in-Some.size ≤ history_limit) in
     subst P (sym is) (places, ids_added tables c.self.inside.ids c.insert.new.self old c.args.txn.now c.args.txn.now.writes some c.self.invariant.1 (λ q. search rules), c.us-self-inside.ensures.value ∙ stamp_added tables old c.args.txn.now c.args.txn.now.writes some, history_kept tables old c.args.txn.now c.self.invariant.3 unrefused, sum, within)
