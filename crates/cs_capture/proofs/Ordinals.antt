@@ -16,7 +16,7 @@ use Rattle.cs_schema.specs.declared.types.Column.{Column}
 use Rattle.cs_schema.specs.declared.types.Table.{Table}
 use Rattle.cs_schema.specs.declared.types.Stream.{Stream}
 use Rattle.cs_txn.specs.declared.txn.Modification.{Modification}
-use Rattle.cs_capture.specs.Captured.{told_columns, column_info, infos_from, infos_of, with_columns, captured_change, captured}
+use Rattle.cs_capture.specs.Captured.{told_columns, column_info, infos_from, infos_of, columns_in, with_columns, captured_change, captured}
 
 abbrev ordinals : List ColumnInfo → List ℕ
 ordinals infos = map (λ (i : ColumnInfo). i.ordinal) infos
@@ -38,15 +38,10 @@ sorted n key names (c ∷ cs) = at (is_among c.name names) (sorted (n + 1) key n
     at true rest = (above n (n + 1) key names cs (omega arith), rest)
     at false rest = rest
 
-empty : IsStrictlySortedBy nat_cmp []
-unfolding IsStrictlySortedBy
-empty = tt
-
 of_table : (table : Option Table) (names : List (List ℕ)) → IsStrictlyIncreasing (ordinals (infos_of table names))
-of_table None names = IsStrictlyIncreasing-from_sorted [] empty
-of_table (Some t) names = IsStrictlyIncreasing-from_sorted (ordinals (infos_from 1 t.key names t.columns)) (sorted 1 t.key names t.columns)
+of_table table names = IsStrictlyIncreasing-from_sorted (ordinals (infos_of table names)) (sorted 1 (key_of table) names (columns_in table))
 
-columns_are : (table : Option Table) (s : Stream) (m : Modification) (change : Option Change) (c : Captured) → with_columns table s m change ≡ Some c → c.columns ≡ infos_of table (told_columns (key_of table) c.change)
+pub columns_are : (table : Option Table) (s : Stream) (m : Modification) (change : Option Change) (c : Captured) → with_columns table s m change ≡ Some c → c.columns ≡ infos_of table (told_columns (key_of table) c.change)
 columns_are table s m None c e = absurd cc
 columns_are table s m (Some change) c e = cc
 

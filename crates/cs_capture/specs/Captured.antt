@@ -82,10 +82,14 @@ abbrev pub infos_from : ℕ → List (List ℕ) → List (List ℕ) → List Col
 infos_from ordinal key names [] = []
 infos_from ordinal key names (c ∷ cs) = cond (is_among c.name names) (column_info key ordinal c ∷ infos_from (ordinal + 1) key names cs) (infos_from (ordinal + 1) key names cs)
 
+-- a table's columns; none where there is no table
+abbrev pub columns_in : Option Table → List Column
+columns_in None = []
+columns_in (Some t) = t.columns
+
 -- ordinals count from 1
 abbrev pub infos_of : Option Table → List (List ℕ) → List ColumnInfo
-infos_of None names = []
-infos_of (Some t) names = infos_from 1 t.key names t.columns
+infos_of table names = infos_from 1 (key_of table) names (columns_in table)
 
 -- the change where this holds
 abbrev pub change_if : Bool → Stream → List (List ℕ) → Modification → Option Change

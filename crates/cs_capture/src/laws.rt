@@ -1,4 +1,4 @@
-ghost use Rattle.std.specs.Prelude.{◌≡◌, ◌++◌, ◌↔◌, ◌⊎◌, [], List, None, Some, All, Contains, map, true, false};
+ghost use Rattle.std.specs.Prelude.{◌≡◌, ◌++◌, ◌↔◌, ◌⊎◌, ◌&&◌, [], ℕ, List, None, Some, All, Contains, map, true, false};
 ghost use Rattle.std.specs.List.Sorted.{IsStrictlyIncreasing};
 ghost use Rattle.cs_types.specs.declared.cells.Cell.{Cell};
 ghost use Rattle.cs_types.specs.declared.change.Kind.TheVariants.{Insert, Update, Delete};
@@ -6,11 +6,13 @@ ghost use Rattle.cs_types.specs.declared.names.CaptureType.TheVariants.{NewRow};
 ghost use Rattle.cs_records.specs.declared.captured.Captured.{Captured};
 ghost use Rattle.cs_records.specs.declared.captured.ColumnInfo.{ColumnInfo};
 ghost use Rattle.cs_schema.specs.Names.{is_among};
+ghost use Rattle.cs_schema.specs.Tables.{table_named};
+ghost use Rattle.cs_schema.specs.declared.types.Column.{Column};
 ghost use Rattle.cs_schema.specs.declared.types.Table.{Table};
 ghost use Rattle.cs_schema.specs.declared.types.Stream.{Stream};
-ghost use Rattle.cs_schema.specs.Watching.{watches_table};
+ghost use Rattle.cs_schema.specs.Watching.{key_of, watches_table};
 ghost use Rattle.cs_txn.specs.declared.txn.Modification.{Modification};
-ghost use Rattle.cs_capture.specs.Captured.{captured, is_watched_in};
+ghost use Rattle.cs_capture.specs.Captured.{captured, columns_in, is_watched_in, told_columns};
 
 /// A law: nothing is captured exactly where the stream does not watch the table, or where an UPDATE
 /// names no watched column of its row.
@@ -36,6 +38,12 @@ pub fn cells_are_of_watched_columns()
 /// A law: with NEW_ROW the captured change of an UPDATE has each watched cell of the row as it is.
 pub fn a_new_row_is_whole()
     ensures { (tables : List Table) (stream : Stream) (m : Modification) (c : Captured) → captured tables stream m ≡ Some c → stream.capture ≡ NewRow → m.kind ≡ Update → All (λ (cell : Cell). is_watched_in tables stream m cell.column ≡ true → Contains c.change.new cell) m.after }
+{}
+
+/// A law: a column list has just the columns of the table that are key columns or that have a cell
+/// in the change.
+pub fn told_columns_are_listed()
+    ensures { (tables : List Table) (stream : Stream) (m : Modification) (c : Captured) (name : List ℕ) → captured tables stream m ≡ Some c → is_among name (map (λ (i : ColumnInfo). i.name) c.columns) ≡ (is_among name (told_columns (key_of (table_named m.row.table tables)) c.change) && is_among name (map (λ (d : Column). d.name) (columns_in (table_named m.row.table tables)))) }
 {}
 
 /// A law: the ordinals of a column list rise.

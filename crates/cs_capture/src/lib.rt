@@ -12,6 +12,6 @@ pub use captured::capture;
 pub use changes::wanted;
 pub use laws::{
     a_delete_has_no_new_cells, a_new_row_is_whole, an_insert_has_no_old_cells, captures_nothing,
-    cells_are_of_watched_columns, ordinals_rise,
+    cells_are_of_watched_columns, ordinals_rise, told_columns_are_listed,
 };
 pub use table::{Told, ToldCells, capture_table};
