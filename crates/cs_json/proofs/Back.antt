@@ -8,6 +8,7 @@ use Rattle.cs_records.specs.declared.records.Record.TheVariants.{Change, Heartbe
 use Rattle.cs_json.specs.Missing.{missing, count, bad_array}
 use Rattle.cs_json.specs.Line.{element_reading, tree_reading, Spells}
 use Rattle.cs_json.specs.Written.{record_data, CanStand, IsKept}
+use Rattle.cs_json.proofs.LinesTold.{tells_if_read}
 use Rattle.cs_json.proofs.ChildrenBack.{heartbeat_back, children_back, no_child_lacks}
 use Rattle.cs_json.proofs.ChangesBack.{change_back, change_lacks_nothing}
 
@@ -27,4 +28,4 @@ is_object (Change r) = refl
 -- a text that JSON reads as the written tree stands for the record
 pub spells_written : (t : List ℕ) (d : Data) (r : Record) → IsUtf8 t → read t ≡ Some d → d ≡ record_data r → IsKept r → CanStand r → Spells r t
 spells_written t d r is reads e kept can =
-    record { text = is; tree = record_data r; json = reads ∙ ap Some e; object = is_object r; tells = tree_back r kept can }
+    record { text = is; tree = record_data r; json = reads ∙ ap Some e; object = is_object r; tells = tells_if_read (record_data r) r (tree_back r kept can) }

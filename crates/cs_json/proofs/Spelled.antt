@@ -10,6 +10,7 @@ use Rattle.cs_records.specs.declared.faults.LineFault.{LineFault}
 use Rattle.cs_records.specs.declared.records.Record.{Record}
 use Rattle.cs_json.specs.Reading.{Reading, Gives, not_memory}
 use Rattle.cs_json.specs.Line.{object_reading, of_tree, bytes_reading, line_reading, line_end, Spells}
+use Rattle.cs_json.proofs.LinesTold.{tells_if_read, read_if_tells}
 use Rattle.cs_json.proofs.Lines.{too_long, short_enough, bytes_text}
 
 abbrev read_to : Record → Reading Record
@@ -31,11 +32,11 @@ not_short : (r : Record) → long ≡ read_to r → ⊥
 not_short r e = cc
 
 pub read_as : (r : Record) (t : List ℕ) → Spells r t → bytes_reading t ≡ Ok r
-read_as r t s = bytes_text t s.text ∙ ap of_tree s.json ∙ rw s.object s.tells
+read_as r t s = bytes_text t s.text ∙ ap of_tree s.json ∙ rw s.object (read_if_tells s.tree r s.tells)
 
 -- of an object, its record
 of_object : (r : Record) (t : List ℕ) (d : Data) → IsUtf8 t → read t ≡ Some d → (b : Bool) → is_some (as_object d) ≡ b → object_reading d ≡ Ok r → Spells r t
-of_object r t d is e true o h = record { text = is; tree = d; json = e; object = o; tells = rw o at h }
+of_object r t d is e true o h = record { text = is; tree = d; json = e; object = o; tells = tells_if_read d r (rw o at h) }
 of_object r t d is e false o h = absurd (no_record r (rw o at h))
 
 of_json : (r : Record) (t : List ℕ) → IsUtf8 t → (o : Option Data) → read t ≡ o → of_tree o ≡ Ok r → Spells r t

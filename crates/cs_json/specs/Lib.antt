@@ -6,5 +6,6 @@ pub mod Children
 pub mod Columns
 pub mod Cells
 pub mod Changes
+pub mod Telling
 pub mod Line
 pub mod Written

@@ -1,5 +1,5 @@
 -- What a line of a READ's answer stands for: one record as JSON (the object is this project's own; its members are those of Spanner's page 'Change streams partitions, records, and queries').
-use Rattle.std.specs.Prelude.{◌≡◌, ℕ, ◌==◌, List, true, length, codes, is_some, nat_lt, if◌then◌else◌, Option, Some, None, Ok, Err}
+use Rattle.std.specs.Prelude.{◌≡◌, ℕ, ◌==◌, List, true, length, codes, is_some, nat_lt, if◌then◌else◌, Option, Some, None, Err}
 use Rattle.std.specs.Str.{is_utf8, IsUtf8}
 use Rattle.serde_json.specs.Data.{Data, Items, no_items, item}
 use Rattle.serde_json.specs.Find.{get, as_object}
@@ -11,6 +11,7 @@ use Rattle.cs_json.specs.Missing.{missing, count, bad_array, elements}
 use Rattle.cs_json.specs.Children.{heartbeat_reading, children_reading}
 use Rattle.cs_json.specs.Columns.{unless_bad}
 use Rattle.cs_json.specs.Changes.{change_reading}
+use Rattle.cs_json.specs.Telling.{Tells}
 
 abbrev pub first_heartbeat : Items → Reading Record
 first_heartbeat no_items = Err ArrayCount
@@ -48,10 +49,6 @@ of_tree (Some d) = object_reading d
 unfoldable pub bytes_reading : List ℕ → Reading Record
 bytes_reading line = if is_utf8 line then of_tree (read line) else Err NotJson
 
--- the tree's members tell the record
-abbrev pub Tells : Record → Data → Type 0
-Tells r d = tree_reading d ≡ Ok r
-
 -- the line stands for the record
 pub record Spells (r : Record) (line : List ℕ) : Type 0 where
   pub text : IsUtf8 line
@@ -59,6 +56,7 @@ pub record Spells (r : Record) (line : List ℕ) : Type 0 where
   -- as JSON it is the tree, in which the later of two members of one name counts
   pub json : read line ≡ Some tree
   pub object : is_some (as_object tree) ≡ true
+  -- whose members tell the record
   pub tells : Tells r tree
 
 -- the most bytes of a line

@@ -4,6 +4,7 @@ ghost use Rattle.serde_json.specs.View.{view};
 ghost use Rattle.cs_json.specs.Missing.{count};
 ghost use Rattle.cs_json.specs.Reading.{Gives};
 ghost use Rattle.cs_json.specs.Line.{Spells, line_end, object_reading, element_reading, tree_reading, of_tree, line_reading};
+ghost use Rattle.cs_json.specs.Written.{CanStand};
 
 use crate::change::change_of;
 use crate::children::{children_of, heartbeat_of};
@@ -40,6 +41,7 @@ pub fn record_from_line(alloc: Global, line: &[u8]) -> Result<Record, LineFault>
     ensures short { IfOk result (λ _. length line.now ≤ line_end) }
     ensures spelled { IfOk result (λ r. Spells r line.now) }
     ensures all { (r : Record) → Spells r line.now → length line.now ≤ line_end → MatchResult result (λ s. s ≡ r) (λ e. e ≡ LineFault.Memory) }
+    ensures writable { IfOk result CanStand }
     ensures one { (r s : Record) → Spells r line.now → Spells s line.now → r ≡ s }
 {
     read_line(alloc, line)

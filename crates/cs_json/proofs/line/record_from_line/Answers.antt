@@ -1,4 +1,5 @@
 use Rattle.cs_json.proofs.Spelled.{short_answer, spelled_answer, all_answered, one_record}
+use Rattle.cs_json.proofs.Writable.{writable_answer}
 use Rattle.cs_json.proofs.line.record_from_line.Goals as goal
 
 pub returns-clause-short : goal.returns-clause-short
@@ -12,3 +13,6 @@ returns-clause-all c = all_answered c.args.line.now c.read_line.result c.read_li
 
 pub returns-clause-one : goal.returns-clause-one
 returns-clause-one c = λ r s one other. one_record c.args.line.now r s one other
+
+pub returns-clause-writable : goal.returns-clause-writable
+returns-clause-writable c = writable_answer c.args.line.now c.read_line.result c.read_line.ensures
