@@ -22,3 +22,5 @@ pub use writing::record_to_line;
 
 #[cfg(test)]
 mod tests;
+#[cfg(test)]
+mod writing_tests;
