@@ -4,7 +4,7 @@ ghost use Rattle.cs_types.specs.Row.{same_row};
 ghost use Rattle.cs_records.specs.declared.captured.Captured.{Captured};
 ghost use Rattle.cs_records.specs.Columns.{columns_of};
 ghost use Rattle.cs_records.specs.Told.{changes_told, record_fault};
-ghost use Rattle.cs_records.specs.Group.{Agree, HasItsColumns, IsAlike, AreRecordsOf, IsNext, AreCut, mod_of};
+ghost use Rattle.cs_records.specs.Group.{Agree, HasItsColumns, IsAlike, AreRecordsOf, IsNext, AreCut, is_nil, mod_of};
 
 use crate::{Captured, DataRecord, Mod};
 use cs_types::{Cell, Duplicate, Items, Memory, Text};
@@ -80,7 +80,7 @@ fn next_record(
         stamp: first.change.stamp,
         sequence,
         tx: first.change.tx.copy()?,
-        is_last: halves.1.is_empty(),
+        is_last: are_none(halves.1),
         table: first.change.row.table.copy()?,
         columns: first.columns.copy()?,
         mods: mods_of(alloc, first, halves.0)?,
@@ -91,6 +91,13 @@ fn next_record(
         tag: first.tag.copy()?,
         system: first.system,
     })
+}
+
+#[tactic(auto, using(crate::proofs::Cutting::is_nil_test))]
+fn are_none(items: &[Captured]) -> bool
+    ensures { result ≡ is_nil items.now }
+{
+    items.is_empty()
 }
 
 fn mods_of(alloc: Global, first: &Captured, more: &[Captured]) -> Result<Items<Mod>, Memory>
