@@ -49,6 +49,9 @@ fn info(key: &Names, ordinal: u32, column: &Column) -> Result<ColumnInfo, Memory
     })
 }
 
+/// The ordinal of a table's first column.
+const FIRST: u32 = 1;
+
 /// What is told of the columns that have one of these names.
 fn infos(
     alloc: Global,
@@ -59,7 +62,7 @@ fn infos(
     ensures { IfOk result (λ c. c ≡ infos_from 1 key.now names.now columns.now) }
 {
     let mut told = Items::new(alloc);
-    let mut ordinal: u32 = FIRST;
+    let mut ordinal = FIRST;
     for column in columns {
         if names.has(&column.name) {
             told.push(info(key, ordinal, column)?)?;
@@ -68,9 +71,6 @@ fn infos(
     }
     Ok(told)
 }
-
-/// The ordinal of a table's first column.
-const FIRST: u32 = 1;
 
 /// The ordinal behind this one. A catalog takes 1,024 columns in a table, so there is one; a table
 /// of more columns than an ordinal counts would be want of memory.
