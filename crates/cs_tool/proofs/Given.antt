@@ -1,13 +1,11 @@
 -- What a reader has after more bytes of a line, after its end, and at the end of all.
-use Rattle.std.proofs.Common.{◌≡◌, ◌≢◌, ◌<◌, ◌≤◌, ◌+◌, ◌-◌, ℕ, zero, suc, List, [], ◌∷◌, ◌++◌, length, All, map, refl, sym, ap, subst, ◌∙◌, append_assoc, append-nil, arith, inl, inr}
+use Rattle.std.proofs.Common.{◌≡◌, ◌≢◌, ◌<◌, ◌≤◌, ◌+◌, ◌-◌, ℕ, zero, suc, List, [], ◌∷◌, ◌++◌, length, All, refl, sym, ap, subst, ◌∙◌, append_assoc, append-nil, arith, inl, inr}
 use Rattle.std.specs.List.{AllPairs, concat}
 use Rattle.std.proofs.lemmas.List.{append_cancel_left, length-append}
 use Rattle.std.proofs.lemmas.List.Elements.{All-nil, All-append}
 use Rattle.std.proofs.lemmas.List.Folds.{concat-append}
-use Rattle.cs_types.specs.Change.{wanted_changes}
-use Rattle.cs_output.specs.Output.{IsTextOf}
 use Rattle.cs_tool.specs.BadLine.{HasNoEnd, IsLine, BeginsScript, IsNoScript, IsFirstBadLine, IsTooLong}
-use Rattle.cs_tool.specs.Script.{IsInsert, IsScript, insert_lines, table_line, stream_line, most_bytes, changes_of}
+use Rattle.cs_tool.specs.Script.{IsInsert, IsScript, insert_lines, table_line, stream_line, most_bytes}
 use Rattle.cs_tool.specs.Reading.{lines_of, CannotFollow, IsReading, HasGiven, IsReplayed, Tracks}
 use Rattle.cs_tool.specs.declared.script.Insert.{Insert}
 use Rattle.cs_tool.specs.declared.taken.Taken.{Taken}

@@ -1,13 +1,13 @@
 -- The lines of a script.
-use Rattle.std.proofs.Common.{◌≡◌, ◌≢◌, ◌<◌, ◌≤◌, ◌^◌, ◌+◌, ◌-◌, ℕ, zero, suc, List, [], ◌∷◌, ◌++◌, length, All, map, refl, sym, ap, subst, ◌∙◌, append_assoc, append-nil, arith, rules, decimal, codes, inl, inr}
+use Rattle.std.proofs.Common.{◌≡◌, ◌≢◌, ◌<◌, ◌≤◌, ◌^◌, ◌+◌, ◌-◌, ℕ, zero, suc, List, [], ◌∷◌, ◌++◌, length, All, map, refl, sym, ap, subst, ◌∙◌, append_assoc, arith, rules, decimal, codes, inl, inr}
 use Rattle.std.specs.Int.{IsInRange}
 use Rattle.std.specs.List.{concat}
 use Rattle.std.proofs.lemmas.Fmt.{digits_decimal, decimal_injective}
 use Rattle.std.proofs.lemmas.List.{append_cancel_left, length-append, map-append}
-use Rattle.std.proofs.lemmas.List.Elements.{All-nil, All-cons, All-head, All-tail, All-append}
+use Rattle.std.proofs.lemmas.List.Elements.{All-nil, All-cons, All-head, All-tail}
 use Rattle.cs_types.specs.Stamp.{stamp_text}
 use Rattle.cs_tool.specs.BadLine.{HasNoEnd, IsLine}
-use Rattle.cs_tool.specs.CommitLine.{field, commit_line, before_at, before_id, before_key, before_a, before_b, line_end, IsLetterOrDigit, IsPlain}
+use Rattle.cs_tool.specs.CommitLine.{field, before_at, before_id, before_key, before_a, before_b, line_end, IsLetterOrDigit, IsPlain}
 use Rattle.cs_tool.specs.Script.{IsInsert, IsScript, insert_line, insert_lines, table_line, stream_line}
 use Rattle.std.specs.List.{AllPairs}
 use Rattle.std.proofs.Math.Seq.{get_or-append_seam}
@@ -15,7 +15,7 @@ use Rattle.cs_tool.specs.Reading.{lines_of, IsNext, CannotFollow}
 use Rattle.cs_tool.proofs.Tracking.{pairs_at}
 use Rattle.cs_tool.specs.declared.script.Insert.{Insert}
 use Rattle.cs_tool.proofs.FieldsOf.{commit_unique}
-use Rattle.cs_tool.proofs.Lines.{line_unique, longer_line, has_no_end, all_weaker, no_line_in, line_filled}
+use Rattle.cs_tool.proofs.Lines.{line_unique, longer_line, has_no_end, all_weaker, line_filled}
 use Rattle.cs_tool.proofs.NoQuotes.{insert_no_quote}
 use Rattle.cs_tool.proofs.Numerals.{own}
 use Rattle.cs_tool.proofs.StampTexts.{stamp_text-injective, stamp_text-no_end}

@@ -1,5 +1,5 @@
 -- The first place of a byte, and what stands before and behind it.
-use Rattle.std.proofs.Common.{◌≡◌, ◌≢◌, ◌<◌, ◌≤◌, ◌+◌, ◌==◌, ℕ, List, Option, None, Some, MatchOption, ◌∷◌, ◌++◌, All, length, take, drop, get_or, true, refl, sym, ap, subst, ◌∙◌, arith}
+use Rattle.std.proofs.Common.{◌≡◌, ◌≢◌, ◌<◌, ◌+◌, ◌==◌, ℕ, List, Option, None, Some, MatchOption, ◌∷◌, ◌++◌, All, length, take, drop, true, sym, ap, ◌∙◌, arith}
 use Rattle.std.proofs.lemmas.List.{get_or-take, get_or_default, drop_more, take-append-drop, length-take}
 use Rattle.memchr.specs.Find.{Nowhere, Passes, IsFirstByte, is_byte}
 

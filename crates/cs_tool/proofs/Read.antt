@@ -1,5 +1,5 @@
 -- What a run says of the whole source.
-use Rattle.std.proofs.Common.{◌≡◌, ℕ, List, length, Option, None, Some, IfSome, sym, subst}
+use Rattle.std.proofs.Common.{◌≡◌, ℕ, List, Option, None, Some, IfSome, sym, subst}
 use Rattle.cs_types.specs.Change.{wanted_changes}
 use Rattle.cs_types.specs.declared.change.Change.{Change}
 use Rattle.cs_output.specs.Output.{IsComplete, IsTextOf}

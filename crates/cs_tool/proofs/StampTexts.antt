@@ -1,5 +1,5 @@
 -- The texts of stamps: each spells one stamp, and has neither a quote nor a line end.
-use Rattle.std.proofs.Common.{◌≡◌, ◌≢◌, ◌<◌, ◌≤◌, ℕ, zero, suc, List, [], ◌∷◌, ◌++◌, All, replicate, codes, pos, IsTrue, Bool, true, false, ◌==◌, refl, sym, ap, subst, ◌∙◌, arith, lit<}
+use Rattle.std.proofs.Common.{◌≡◌, ◌≢◌, ◌<◌, ℕ, zero, suc, List, [], ◌∷◌, ◌++◌, All, replicate, codes, pos, IsTrue, refl, subst, arith, lit<}
 use Rattle.std.proofs.lemmas.List.Elements.{All-nil, All-cons, All-head, All-tail, All-append}
 use Rattle.cs_types.specs.Shape.{allows, Fits}
 use Rattle.cs_types.specs.Moment.{IsMomentShape, fraction_pattern}

@@ -1,18 +1,18 @@
 -- One insert more behind those that are tracked, and one that may not stand there.
-use Rattle.std.proofs.Common.{◌≡◌, ◌≢◌, ◌<◌, ◌≤◌, ◌+◌, ℕ, Bool, true, false, cond, List, [], ◌∷◌, ◌++◌, length, All, Contains, map, get_or, refl, sym, ap, subst, ◌∙◌, arith, rules, inl, inr, Equal, true≢false}
+use Rattle.std.proofs.Common.{◌≡◌, ◌≢◌, ◌≤◌, ℕ, Bool, true, false, cond, List, [], ◌∷◌, ◌++◌, length, All, Contains, get_or, refl, sym, ap, subst, ◌∙◌, arith, rules, inr, Equal, true≢false}
 use Rattle.std.specs.declared.cmp.Ordering.{Ordering}
 use Rattle.std.specs.BTreeSet.{BTreeSet, contains, Updates}
 use Rattle.std.specs.BTreeMap.{is_at}
 use Rattle.std.proofs.lemmas.Map.Lookups.{exact_unsigned, exact_bytes}
 use Rattle.std.specs.List.{AllPairs}
-use Rattle.std.proofs.lemmas.List.Elements.{All-nil, All-cons, All-head, All-append, All-push, Contains-append_left, Contains-append_right}
+use Rattle.std.proofs.lemmas.List.Elements.{All-nil, All-cons, All-append, All-push, Contains-append_left, Contains-append_right}
 use Rattle.std.proofs.lemmas.List.Quantifiers.{all_pairs_push}
 use Rattle.std.proofs.lemmas.List.{get_or_append_left, length-append}
 use Rattle.std.proofs.Math.Seq.{get_or-append_seam}
 use Rattle.std.specs.Ordering.{nat_cmp}
 use Rattle.std.specs.Cmp.Lexicographic.{slice_cmp}
-use Rattle.cs_tool.specs.Reading.{Mirrors, Tracks, IsNext}
-use Rattle.cs_tool.specs.Script.{IsInsert, IsScript, changes_of}
+use Rattle.cs_tool.specs.Reading.{Mirrors, Tracks}
+use Rattle.cs_tool.specs.Script.{IsInsert, changes_of}
 use Rattle.cs_types.specs.Change.{wanted_changes}
 use Rattle.cs_output.specs.Output.{IsTextOf}
 use Rattle.cs_tool.specs.declared.taken.Taken.{Taken}

@@ -1,5 +1,5 @@
 -- The wanted changes of inserts, and of one more.
-use Rattle.std.proofs.Common.{◌≡◌, ℕ, Bool, true, false, cond, List, [], ◌∷◌, ◌++◌, map, refl, ap, ◌∙◌, append-nil, rules}
+use Rattle.std.proofs.Common.{◌≡◌, ℕ, Bool, true, false, cond, List, [], ◌∷◌, ◌++◌, refl, ap, ◌∙◌, append-nil}
 use Rattle.std.specs.Int.{is_in_range}
 use Rattle.cs_types.specs.Change.{wanted_changes}
 use Rattle.cs_types.specs.declared.change.Change.{Change}

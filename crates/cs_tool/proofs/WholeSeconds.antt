@@ -4,8 +4,8 @@ use Rattle.std.proofs.lemmas.List.{length-append}
 use Rattle.jiff_core.specs.Calendar.{days_from_civil}
 use Rattle.jiff_core.proofs.SignedLemmas.{signed_arith}
 use Rattle.cs_types.specs.Shape.{allows, Fits, two_digits}
-use Rattle.cs_types.specs.Civil.{IsCivil, HasCivilDate, year_field, month_field, day_field, date_field, date_text}
-use Rattle.cs_types.specs.Moment.{IsMomentShape, fraction_pattern, hour_field, minute_field, second_field, clock_field, nanosecond_field, moment_field, tenths, microsecond_of, day_number, clock_text, moment_text}
+use Rattle.cs_types.specs.Civil.{IsCivil, year_field, month_field, day_field, date_text}
+use Rattle.cs_types.specs.Moment.{fraction_pattern, hour_field, minute_field, second_field, clock_field, nanosecond_field, moment_field, tenths, microsecond_of, day_number, clock_text, moment_text}
 use Rattle.cs_types.specs.Stamp.{IsStamp, Spells, stamp_text}
 use Rattle.cs_types.proofs.Patterns.{length_of_fit}
 use Rattle.cs_types.proofs.Calendar.{year_of_is, month_of_is, day_of_is}

@@ -1,5 +1,5 @@
 -- What the reading of a script has of the bytes that it was given, this project's own.
-use Rattle.std.specs.Prelude.{◌≡◌, ◌≢◌, ◌⊎◌, ◌≤◌, ℕ, zero, suc, ◌+◌, ◌-◌, true, List, [], ◌∷◌, ◌++◌, length, All, map, Contains, Option, IfSome, ⊤}
+use Rattle.std.specs.Prelude.{◌≡◌, ◌≢◌, ◌⊎◌, ◌≤◌, ℕ, zero, suc, ◌-◌, true, List, [], ◌∷◌, ◌++◌, length, All, map, Contains, ⊤}
 use Rattle.std.specs.BTreeSet.{BTreeSet, contains}
 use Rattle.std.specs.List.{AllPairs, concat}
 use Rattle.std.specs.Ordering.{nat_cmp}
@@ -9,7 +9,7 @@ use Rattle.cs_tool.specs.Stamps.{first_stamp}
 use Rattle.cs_types.specs.Change.{wanted_changes}
 use Rattle.cs_output.specs.Output.{IsTextOf}
 use Rattle.cs_tool.specs.BadLine.{HasNoEnd, IsFirstBadLine, IsTooLong}
-use Rattle.cs_tool.specs.Script.{IsInsert, IsScript, insert_line, table_line, stream_line, changes_of, most_bytes}
+use Rattle.cs_tool.specs.Script.{IsInsert, IsScript, insert_line, table_line, stream_line, changes_of}
 use Rattle.cs_tool.specs.declared.script.Insert.{Insert}
 use Rattle.cs_tool.specs.declared.taken.Taken.{Taken}
 use Rattle.cs_tool.specs.declared.reader.Reader.{Reader}

@@ -1,5 +1,5 @@
 -- How far the reading of a source has come, this project's own.
-use Rattle.std.specs.Prelude.{◌≡◌, ◌≤◌, ◌+◌, ℕ, List, length, take, Option}
+use Rattle.std.specs.Prelude.{◌≡◌, ℕ, List, length, take, Option}
 use Rattle.std.specs.Io.KnownBytes.{Consumes}
 use Rattle.cs_tool.specs.Reading.{HasGiven}
 use Rattle.cs_tool.specs.Script.{most_bytes}

@@ -1,5 +1,5 @@
-use Rattle.std.proofs.Common.{◌≡◌, ◌≤◌, ◌<◌, ◌+◌, ◌-◌, ◌∙◌, ◌++◌, [], List, ℕ, take, length, min, IfOk, IfErr, arith, subst, sym, ap, refl}
-use Rattle.cs_tool.specs.Reading.{IsReplayed, IsScriptFault, HasGiven}
+use Rattle.std.proofs.Common.{◌≡◌, ◌≤◌, ◌∙◌, IfOk, IfErr, arith, subst, sym, refl}
+use Rattle.cs_tool.specs.Reading.{IsReplayed, IsScriptFault}
 use Rattle.cs_tool.specs.BadLine.{IsTooLong}
 use Rattle.cs_tool.specs.declared.reader.ScriptFault.TheVariants.{Failed}
 use Rattle.cs_tool.specs.Script.{most_bytes}

@@ -1,4 +1,4 @@
-use Rattle.std.proofs.Common.{◌≡◌, ◌+◌, ◌-◌, ◌≤◌, ◌<◌, List, ℕ, length}
+use Rattle.std.proofs.Common.{◌≡◌, ◌-◌, ◌≤◌, ◌<◌, List, ℕ, length}
 use Rattle.cs_tool.specs.Source.{IsGiven}
 use Rattle.cs_tool.proofs.source.read_script.Given as goal
 

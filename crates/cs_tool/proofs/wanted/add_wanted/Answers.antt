@@ -1,6 +1,5 @@
-use Rattle.std.proofs.Common.{◌≡◌, true, false, sym, ◌∙◌, subst, OnOk}
+use Rattle.std.proofs.Common.{◌≡◌, true, false, sym, ◌∙◌}
 use Rattle.std.specs.Int.{is_in_range}
-use Rattle.cs_output.specs.Output.{IsTextOf}
 use Rattle.cs_tool.proofs.WantedMore.{wanted_in, wanted_out}
 use Rattle.cs_tool.proofs.wanted.add_wanted.Goals as goal
 

@@ -1,4 +1,4 @@
-use Rattle.std.proofs.Common.{◌≡◌, ◌≤◌, ◌<◌, ◌+◌, length, arith, rules}
+use Rattle.std.proofs.Common.{◌≡◌, ◌+◌, arith, rules}
 use Rattle.cs_tool.proofs.Given.{cut_wrong, few_lines}
 use Rattle.cs_tool.proofs.reader.Reader.finish.Goals as goal
 

@@ -1,6 +1,5 @@
-use Rattle.std.proofs.Common.{◌≡◌, ◌≤◌, ◌+◌, ◌∷◌, ◌++◌, [], ◌∙◌, sym, ap, arith, rules, true, false, length}
+use Rattle.std.proofs.Common.{◌≡◌, ◌+◌, ◌∷◌, ◌++◌, [], arith, rules, true, false}
 use Rattle.std.proofs.lemmas.List.{length-append}
-use Rattle.cs_tool.specs.Script.{most_bytes}
 use Rattle.cs_tool.proofs.Given.{line_of, line_given, line_wrong, few_lines}
 use Rattle.cs_tool.proofs.reader.Reader.take_end.Goals as goal
 

@@ -1,4 +1,4 @@
-use Rattle.std.proofs.Common.{◌≡◌, ◌≤◌, ◌+◌, ◌++◌, List, ℕ, length, take, drop, sym, subst, arith}
+use Rattle.std.proofs.Common.{◌+◌, ◌++◌, List, ℕ, length, take, drop, sym, subst, arith}
 use Rattle.std.proofs.lemmas.List.{take_all}
 use Rattle.cs_tool.specs.Reading.{HasGiven, IsScriptFault}
 use Rattle.cs_tool.specs.Script.{most_bytes}

@@ -1,4 +1,4 @@
-use Rattle.std.proofs.Common.{◌≤◌, ◌+◌, ◌-◌, ◌∙◌, ◌++◌, List, ℕ, length, take, drop, sym, subst, arith, length-drop}
+use Rattle.std.proofs.Common.{◌≤◌, ◌-◌, ◌∙◌, ◌++◌, List, ℕ, length, take, drop, sym, subst, arith, length-drop}
 use Rattle.cs_tool.specs.Reading.{HasGiven, IsScriptFault}
 use Rattle.cs_tool.specs.Script.{most_bytes}
 use Rattle.cs_tool.proofs.Pieces.{piece_more, piece_whole}

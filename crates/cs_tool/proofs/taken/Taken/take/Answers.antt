@@ -1,9 +1,8 @@
-use Rattle.std.proofs.Common.{◌≡◌, ◌≤◌, true, false, arith, rules, sym}
+use Rattle.std.proofs.Common.{◌≡◌, ◌≤◌, false, arith, rules}
 use Rattle.std.specs.Ordering.{nat_cmp}
 use Rattle.std.specs.Cmp.Lexicographic.{slice_cmp}
 use Rattle.std.specs.BTreeSet.{contains}
 use Rattle.cs_tool.proofs.Tracking.{tracks_push}
-use Rattle.cs_tool.proofs.InsertLines.{lines_front}
 use Rattle.cs_tool.proofs.taken.Taken.take.Goals as goal
 
 pub returns-clause-taken : goal.returns-clause-taken

@@ -1,4 +1,4 @@
-use Rattle.std.proofs.Common.{◌≡◌, ◌≤◌, ◌∷◌, ◌++◌, [], ◌∙◌, IfOk, Result, Ok, Err, sym, subst, arith, true, false}
+use Rattle.std.proofs.Common.{◌≤◌, ◌∷◌, ◌++◌, [], ◌∙◌, IfOk, Result, Ok, Err, sym, subst, arith}
 use Rattle.std.proofs.lemmas.List.{length-append}
 use Rattle.cs_tool.specs.Reading.{CannotFollow, lines_of, IsNext}
 use Rattle.cs_tool.proofs.InsertLines.{not_table, not_stream, line_refused, line_added, insert_line-injective}
