@@ -17,7 +17,7 @@ abbrev pub members_length : Members → ℕ
 members_length no_members = 0
 members_length (member name d ms) = member_length name d + members_length ms
 
--- an object with these members has an opening brace too, and without any two braces
+-- the length of an object whose members take so much: an opening brace before them, or two braces alone
 abbrev pub object_length : ℕ → ℕ
 object_length zero = 2
 object_length (suc n) = suc (suc n)

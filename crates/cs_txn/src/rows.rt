@@ -1,9 +1,9 @@
-ghost use Rattle.std.specs.Prelude.{◌≡◌, ◌+◌, ◌<◌, ◌++◌, ◌∷◌, [], ℕ, List, length, IsSome, IfOk, OnOk, Some, None, cond, All, option_copied, slice_get, ◌^◌};
+ghost use Rattle.std.specs.Prelude.{◌≡◌, ◌+◌, ◌<◌, ◌++◌, length, IsSome, IfOk, OnOk, Some, None, cond, option_copied, slice_get, ◌^◌};
 ghost use Rattle.std.specs.BTreeMap.{get, is_at};
 ghost use Rattle.cs_types.specs.Row.{row_cmp};
 ghost use Rattle.cs_types.specs.declared.change.RowName.{RowName as row_name};
 ghost use Rattle.cs_schema.specs.Tables.{flat};
-ghost use Rattle.cs_txn.specs.Places.{PlacesOf, last_place, standing, lasts_in, place_at, HaveRoom};
+ghost use Rattle.cs_txn.specs.Places.{PlacesOf, standing, lasts_in, place_at, HaveRoom};
 
 use crate::{Modification, Write};
 use cs_types::{Duplicate, Memory, RowName};
@@ -44,7 +44,7 @@ pub(crate) fn lasts(
     Ok(lasts)
 }
 
-/// The place of an index.
+/// The place that stands at an index, if there is one.
 pub(crate) fn place_at(lasts: &[Option<usize>], index: usize) -> Option<usize>
     ensures { result ≡ place_at lasts.now index }
 {
