@@ -1,5 +1,5 @@
 -- The verdict against what a good and a complete output is.
-use Rattle.std.proofs.Common.{◌≡◌, ◌⊎◌, ◌↔◌, ℕ, List, [], ◌∷◌, ◌++◌, Contains, get_or, refl, sym, ap, subst, ◌∙◌, inl, inr}
+use Rattle.std.proofs.Common.{◌≡◌, ◌⊎◌, ◌↔◌, ℕ, List, [], ◌∷◌, ◌++◌, Contains, get_or, refl, sym, ap, subst, ◌∙◌, inl, inr, ◌<◌, arith}
 use Rattle.std.proofs.lemmas.List.Elements.{All-contains, Contains-get_or}
 use Rattle.std.specs.List.{AllZip}
 use Rattle.cs_types.specs.Stamp.{IsStamp}
@@ -9,7 +9,7 @@ use Rattle.cs_output.specs.Reading.{Means, AreLinesOf}
 use Rattle.cs_output.specs.declared.reading.Line.{Line}
 use Rattle.cs_output.specs.declared.reading.Line.TheVariants.{Watermark, Change as Told}
 use Rattle.cs_output.proofs.Meanings.{same_text, one_meaning}
-use Rattle.cs_audit.specs.Audit.{HasNoOffence, IsRight, IsExtra, IsOutOfOrder, IsEarly, IsBack, IsNext, IsDone, IsVerdict, SaysPrefix}
+use Rattle.cs_audit.specs.Audit.{HasNoOffence, IsRight, IsExtra, IsOutOfOrder, IsEarly, IsBack, IsNext, IsDone, IsVerdict, SaysPrefix, IsAbove, last_watermark}
 use Rattle.cs_audit.specs.Index.{DifferInLines}
 use Rattle.cs_audit.specs.declared.verdict.Verdict.{Verdict}
 use Rattle.cs_audit.specs.declared.verdict.Verdict.TheVariants.{Complete, Prefix, Extra, OutOfOrder, WatermarkEarly, WatermarkBack}
@@ -93,7 +93,11 @@ early_wrong c before wanted end (Watermark at) early right = early.absent (right
 
 back_wrong : (before : List Line) (wanted : List Change) (end : ℕ) (line : Line) → IsBack before wanted end line → IsRight before wanted end line → ⊥
 back_wrong before wanted end (Told text) back right = back
-back_wrong before wanted end (Watermark at) back right = back.1 right.above right.up_to_end
+back_wrong before wanted end (Watermark at) back right = by back.1
+  where
+    by : (IsAbove at (last_watermark before) → ⊥) ⊎ (end < at) → ⊥
+    by (inl below) = below right.above
+    by (inr past) = omega (arith, past, right.up_to_end)
 
 offends : (v : Verdict) (lines : List Line) (wanted : List Change) (end : ℕ) → DifferInLines wanted → IsVerdict v lines wanted end → HasNoOffence lines wanted end → (SaysPrefix v) ⊎ (v ≡ Complete)
 offends Complete lines wanted end differ is none = inr refl

@@ -1,7 +1,8 @@
 -- One change more in the index.
 use Rattle.std.proofs.Common.{◌≡◌, ◌≢◌, ◌⊎◌, ◌<◌, ◌≤◌, ◌+◌, ℕ, Bool, true, false, cond, List, [], ◌∷◌, ◌++◌, length, All, Contains, get_or, Option, None, Some, refl, sym, ap, subst, ◌∙◌, arith, inl, inr, true≢false}
 use Rattle.std.specs.declared.cmp.Ordering.{Ordering}
-use Rattle.std.specs.Ordering.{nat_cmp, is_eq}
+use Rattle.std.specs.declared.cmp.Ordering.TheVariants.{Less, Equal, Greater}
+use Rattle.std.specs.Ordering.{nat_cmp, ordering_then, is_eq}
 use Rattle.std.specs.Cmp.{Equal-is, eq_by_cmp_equiv}
 use Rattle.std.specs.Cmp.Lexicographic.{slice_cmp, nat_list_cmp_total}
 use Rattle.std.specs.BTreeMap.{BTreeMap, get, is_at}
@@ -16,7 +17,8 @@ use Rattle.cs_types.specs.declared.change.Change.{Change}
 use Rattle.cs_types.specs.declared.change.RowName.{RowName}
 use Rattle.cs_types.proofs.SameRow.{same_row-is}
 use Rattle.cs_output.specs.Line.{change_line}
-use Rattle.cs_audit.specs.Index.{DifferInLines, ArePlaces, IsLatest, ArePrevious, AreEntries}
+use Rattle.cs_audit.specs.declared.conditions.Name.{Name}
+use Rattle.cs_audit.specs.Index.{DifferBy, DifferInLines, ArePlacesBy, name_cmp, IsLatest, ArePrevious, AreEntries}
 
 -- a number below the next one is below this one, or is it
 pub below_next : (p i : ℕ) → p < i + 1 → (p < i) ⊎ (p ≡ i)
@@ -36,10 +38,10 @@ module _ {K X : Type 0} (cmp : K → K → Ordering) (exact : (a b : K) → is_e
       by true e = inl (exact k q e, update q ∙ ap (λ b. cond b (Some v) (get cmp m q)) e)
       by false e = inr ((λ is. true≢false (sym (subst (λ x. is_eq (cmp k x) ≡ true) is (same k)) ∙ e)), update q ∙ ap (λ b. cond b (Some v) (get cmp m q)) e)
 
-exact_text : (a b : List ℕ) → is_eq (slice_cmp nat_cmp a b) ≡ true → a ≡ b
+pub exact_text : (a b : List ℕ) → is_eq (slice_cmp nat_cmp a b) ≡ true → a ≡ b
 exact_text a b e = exact_bytes a b ((Equal-is (slice_cmp nat_cmp a b)).0 e)
 
-same_text : (a : List ℕ) → is_eq (slice_cmp nat_cmp a a) ≡ true
+pub same_text : (a : List ℕ) → is_eq (slice_cmp nat_cmp a a) ≡ true
 same_text a = (eq_by_cmp_equiv nat_list_cmp_total).refl a
 
 exact_row : (a b : RowName) → is_eq (row_cmp a b) ≡ true → a ≡ b
@@ -52,38 +54,72 @@ same_row' a = (same_row-is a a).1 refl
 pub at_place : (wanted : List Change) (i : ℕ) (c : Change) → i < length wanted → c ≡ get_or wanted i c → (d : Change) → get_or wanted i d ≡ c
 at_place wanted i c within is d = get_or_default wanted i d c within ∙ sym is
 
--- the places of lines
-pub no_places : (m : BTreeMap (List ℕ) ℕ) (wanted : List Change) → ((q : List ℕ) → get (slice_cmp nat_cmp) m q ≡ None) → ArePlaces m wanted 0
-no_places m wanted none = record { has = λ p d lt. absurd (omega arith); only = λ text p e. let no : None ≡ Some p = sym (none text) ∙ e in cc }
+-- the places of keys
+module _ {K : Type 0} (cmp : K → K → Ordering) (exact : (a b : K) → is_eq (cmp a b) ≡ true → a ≡ b) (same : (a : K) → is_eq (cmp a a) ≡ true) (key : Change → K) where
+  pub places_more : (m n : BTreeMap K ℕ) (wanted : List Change) (i : ℕ) (c : Change) (k : K) → ((p : ℕ) (d : Change) → p < i → key (get_or wanted p d) ≢ k) → i < length wanted → c ≡ get_or wanted i c → k ≡ key c
+      → ((q : K) → get cmp n q ≡ cond (is_at (cmp k) q) (Some i) (get cmp m q)) → ArePlacesBy cmp key m wanted i → ArePlacesBy cmp key n wanted (i + 1)
+  places_more m n wanted i c k new within is key_is update old = record {
+    has = λ p d lt. has p d (below_next p i lt) (at (key (get_or wanted p d)));
+    only = λ q p e. only q p e (at q);
+  }
+    where
+      here : (d : Change) → k ≡ key (get_or wanted i d)
+      here d = key_is ∙ sym (ap key (at_place wanted i c within is d))
 
-pub places_more : (m n : BTreeMap (List ℕ) ℕ) (wanted : List Change) (i : ℕ) (c : Change) (line : List ℕ) → DifferInLines wanted → i < length wanted → c ≡ get_or wanted i c → line ≡ change_line c
-    → ((q : List ℕ) → get (slice_cmp nat_cmp) n q ≡ cond (is_at (slice_cmp nat_cmp line) q) (Some i) (get (slice_cmp nat_cmp) m q)) → ArePlaces m wanted i → ArePlaces n wanted (i + 1)
-places_more m n wanted i c line differ within is line_is update old = record {
-  has = λ p d lt. has p d (below_next p i lt) (at (change_line (get_or wanted p d)));
-  only = λ text p e. only text p e (at text);
-}
+      at : (q : K) → ((k ≡ q) × (get cmp n q ≡ Some i)) ⊎ ((k ≢ q) × (get cmp n q ≡ get cmp m q))
+      at q = after_insert cmp exact same m n k i update q
+
+      has : (p : ℕ) (d : Change) → (p < i) ⊎ (p ≡ i) → ((k ≡ key (get_or wanted p d)) × (get cmp n (key (get_or wanted p d)) ≡ Some i))
+          ⊎ ((k ≢ key (get_or wanted p d)) × (get cmp n (key (get_or wanted p d)) ≡ get cmp m (key (get_or wanted p d)))) → get cmp n (key (get_or wanted p d)) ≡ Some p
+      has p d (inl less) (inl found) = absurd (new p d less (sym found.0))
+      has p d (inl less) (inr other) = other.1 ∙ old.has p d less
+      has p d (inr now) (inl found) = found.1 ∙ ap Some (sym now)
+      has p d (inr now) (inr other) = absurd (other.0 (here d ∙ ap (λ j. key (get_or wanted j d)) (sym now)))
+
+      only : (q : K) (p : ℕ) → get cmp n q ≡ Some p → ((k ≡ q) × (get cmp n q ≡ Some i)) ⊎ ((k ≢ q) × (get cmp n q ≡ get cmp m q)) → (p < i + 1) × ((d : Change) → q ≡ key (get_or wanted p d))
+      only q p e (inl found) =
+          let some : Some i ≡ Some p = sym found.1 ∙ e in
+          let now : i ≡ p = cc in
+          (omega arith, λ d. sym found.0 ∙ here d ∙ ap (λ j. key (get_or wanted j d)) now)
+      only q p e (inr other) = let before = old.only q p (sym other.1 ∙ e) in (omega (arith, before.0), before.1)
+
+  -- a key that is not there is that of no change so far
+  pub new_key : (m : BTreeMap K ℕ) (wanted : List Change) (i : ℕ) (k : K) → ArePlacesBy cmp key m wanted i → get cmp m k ≡ None → (p : ℕ) (d : Change) → p < i → key (get_or wanted p d) ≢ k
+  new_key m wanted i k are gone p d less = λ e. let no : Some p ≡ None = sym (are.has p d less) ∙ ap (get cmp m) e ∙ gone in cc
+
+  -- a key that is there stands twice
+  pub key_twice : (m : BTreeMap K ℕ) (wanted : List Change) (i p : ℕ) (c : Change) (k : K) → ArePlacesBy cmp key m wanted i → get cmp m k ≡ Some p → i < length wanted → c ≡ get_or wanted i c → k ≡ key c
+      → DifferBy key wanted → ⊥
+  key_twice m wanted i p c k are there within is key_is differ =
+      let found = are.only k p there in
+      differ p i c found.0 within (sym (found.1 c) ∙ key_is ∙ ap key is)
+
+  pub differ_more : (wanted : List Change) (n : ℕ) (c : Change) (k : K) → n < length wanted → c ≡ get_or wanted n c → k ≡ key c → ((p : ℕ) (d : Change) → p < n → key (get_or wanted p d) ≢ k)
+      → ((i j : ℕ) (d : Change) → i < j → j < n → key (get_or wanted i d) ≢ key (get_or wanted j d)) → (i j : ℕ) (d : Change) → i < j → j < n + 1 → key (get_or wanted i d) ≢ key (get_or wanted j d)
+  differ_more wanted n c k within is key_is new old i j d less lt = by (below_next j n lt)
+    where
+      by : (j < n) ⊎ (j ≡ n) → key (get_or wanted i d) ≢ key (get_or wanted j d)
+      by (inl before) = old i j d less before
+      by (inr now) = λ e. new i d (omega (arith, less, now)) (e ∙ ap (λ q. key (get_or wanted q d)) now ∙ ap key (at_place wanted n c within is d) ∙ sym key_is)
+
+-- where the changes differ, each key is new
+pub line_is_new : (wanted : List Change) (i : ℕ) (c : Change) (line : List ℕ) → DifferInLines wanted → i < length wanted → c ≡ get_or wanted i c → line ≡ change_line c → (p : ℕ) (d : Change) → p < i → change_line (get_or wanted p d) ≢ line
+line_is_new wanted i c line differ within is line_is p d less = λ e. differ p i d less within (e ∙ line_is ∙ sym (ap change_line (at_place wanted i c within is d)))
+
+pub exact_name : (a b : Name) → is_eq (name_cmp a b) ≡ true → a ≡ b
+exact_name a b e =
+    let both = both_equal (row_cmp a.row b.row) (slice_cmp nat_cmp a.tx b.tx) ((Equal-is (name_cmp a b)).0 e) in
+    let rows : a.row ≡ b.row = exact_row a.row b.row (ap is_eq both.0) in
+    let txs : a.tx ≡ b.tx = exact_text a.tx b.tx (ap is_eq both.1) in
+    λ i. record { row = rows i; tx = txs i }
   where
-    here : (d : Change) → line ≡ change_line (get_or wanted i d)
-    here d = line_is ∙ sym (ap change_line (at_place wanted i c within is d))
+    both_equal : (o p : Ordering) → ordering_then o p ≡ Equal → (o ≡ Equal) × (p ≡ Equal)
+    both_equal Less p e = cc
+    both_equal Equal p e = (refl, e)
+    both_equal Greater p e = cc
 
-    at : (q : List ℕ) → ((line ≡ q) × (get (slice_cmp nat_cmp) n q ≡ Some i)) ⊎ ((line ≢ q) × (get (slice_cmp nat_cmp) n q ≡ get (slice_cmp nat_cmp) m q))
-    at q = after_insert (slice_cmp nat_cmp) exact_text same_text m n line i update q
-
-    has : (p : ℕ) (d : Change) → (p < i) ⊎ (p ≡ i) → ((line ≡ change_line (get_or wanted p d)) × (get (slice_cmp nat_cmp) n (change_line (get_or wanted p d)) ≡ Some i))
-        ⊎ ((line ≢ change_line (get_or wanted p d)) × (get (slice_cmp nat_cmp) n (change_line (get_or wanted p d)) ≡ get (slice_cmp nat_cmp) m (change_line (get_or wanted p d))))
-        → get (slice_cmp nat_cmp) n (change_line (get_or wanted p d)) ≡ Some p
-    has p d (inl less) (inl found) = absurd (differ p i d less within (sym found.0 ∙ here d))
-    has p d (inl less) (inr other) = other.1 ∙ old.has p d less
-    has p d (inr now) (inl found) = found.1 ∙ ap Some (sym now)
-    has p d (inr now) (inr other) = absurd (other.0 (here d ∙ ap (λ k. change_line (get_or wanted k d)) (sym now)))
-
-    only : (text : List ℕ) (p : ℕ) → get (slice_cmp nat_cmp) n text ≡ Some p → ((line ≡ text) × (get (slice_cmp nat_cmp) n text ≡ Some i)) ⊎ ((line ≢ text) × (get (slice_cmp nat_cmp) n text ≡ get (slice_cmp nat_cmp) m text))
-        → (p < i + 1) × ((d : Change) → text ≡ change_line (get_or wanted p d))
-    only text p e (inl found) =
-        let some : Some i ≡ Some p = sym found.1 ∙ e in
-        let now : i ≡ p = cc in
-        (omega arith, λ d. sym found.0 ∙ here d ∙ ap (λ k. change_line (get_or wanted k d)) now)
-    only text p e (inr other) = let before = old.only text p (sym other.1 ∙ e) in (omega (arith, before.0), before.1)
+pub same_name : (a : Name) → is_eq (name_cmp a a) ≡ true
+same_name a = rw ((Equal-is (row_cmp a.row a.row)).0 (same_row' a.row)) (same_text a.tx)
 
 -- the last places of rows
 pub latest_more : (m n : BTreeMap RowName ℕ) (wanted : List Change) (i : ℕ) (c : Change) → i < length wanted → c ≡ get_or wanted i c

@@ -1,5 +1,5 @@
 -- What the lines of an output are found to be, against the changes that are wanted and the end, as this project defines it: the first offence, or none.
-use Rattle.std.specs.Prelude.{◌≡◌, ◌≢◌, ◌≤◌, ◌<◌, ℕ, ◌+◌, List, [], ◌∷◌, ◌++◌, length, Contains, Option, None, Some, ⊤}
+use Rattle.std.specs.Prelude.{◌≡◌, ◌≢◌, ◌⊎◌, ◌≤◌, ◌<◌, ℕ, ◌+◌, List, [], ◌∷◌, ◌++◌, length, Contains, Option, None, Some, ⊤}
 use Rattle.std.specs.List.{AllPairs}
 use Rattle.cs_types.specs.declared.change.Change.{Change}
 use Rattle.cs_output.specs.Line.{change_line}
@@ -90,7 +90,7 @@ IsEarly c before wanted end (Watermark at) = IsMissing before wanted at c
 -- a watermark that is not above the last one, or is above the end, where no change is missing
 abbrev pub IsBack : List Line → List Change → ℕ → Line → Type 0
 IsBack before wanted end (Told text) = ⊥
-IsBack before wanted end (Watermark at) = HasUpTo before wanted at × (IsAbove at (last_watermark before) → at ≤ end → ⊥)
+IsBack before wanted end (Watermark at) = HasUpTo before wanted at × ((IsAbove at (last_watermark before) → ⊥) ⊎ (end < at))
 
 -- the line with this number, from 1, is the first offence, and one of this kind
 pub record IsFirst (Kind : List Line → List Change → ℕ → Line → Type 0) (number : ℕ) (lines : List Line) (wanted : List Change) (end : ℕ) : Type 0 where

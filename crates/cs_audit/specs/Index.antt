@@ -2,9 +2,11 @@
 use Rattle.std.specs.Prelude.{◌≡◌, ◌≢◌, ◌≤◌, ◌<◌, ℕ, List, length, All, Contains, Bool, true, false, Option, None, Some, slice_index_or}
 use Rattle.std.specs.List.{AllPairs}
 use Rattle.std.specs.List.Sorted.{IsNonDecreasingBy}
-use Rattle.std.specs.Ordering.{nat_cmp}
+use Rattle.std.specs.declared.cmp.Ordering.{Ordering}
+use Rattle.std.specs.Ordering.{nat_cmp, ordering_then}
 use Rattle.std.specs.Cmp.Lexicographic.{slice_cmp}
 use Rattle.std.specs.BTreeMap.{BTreeMap, get}
+use Rattle.cs_types.specs.Row.{row_cmp}
 use Rattle.cs_types.specs.declared.change.Change.{Change}
 use Rattle.cs_types.specs.declared.change.RowName.{RowName}
 use Rattle.cs_output.specs.Line.{change_line}
@@ -12,19 +14,36 @@ use Rattle.cs_output.specs.declared.reading.Line.{Line}
 use Rattle.cs_audit.specs.Audit.{Stands, HasNoOffence, IsExtra, IsOutOfOrder, IsEarly, IsBack, last_watermark}
 use Rattle.cs_audit.specs.declared.verdict.Verdict.{Verdict}
 use Rattle.cs_audit.specs.declared.verdict.Verdict.TheVariants as verdict
+use Rattle.cs_audit.specs.declared.conditions.Name.{Name}
 use Rattle.cs_audit.specs.declared.index.Index.{Index}
 use Rattle.cs_audit.specs.declared.seen.Seen.{Seen}
 use Rattle.cs_audit.specs.declared.seen.Offence.{Offence}
 use Rattle.cs_audit.specs.declared.seen.Offence.TheVariants.{Extra, OutOfOrder, WatermarkEarly, WatermarkBack}
 
+-- no two changes have one key
+abbrev pub DifferBy : {K : Type 0} → (Change → K) → List Change → Type 0
+DifferBy key wanted = AllPairs (λ c d. key c ≢ key d) wanted
+
 -- no two changes have one line
 abbrev pub DifferInLines : List Change → Type 0
-DifferInLines wanted = AllPairs (λ c d. change_line c ≢ change_line d) wanted
+DifferInLines wanted = DifferBy change_line wanted
 
--- the map has the place of the line of each of the first n changes, and no other line
-pub record ArePlaces (places : BTreeMap (List ℕ) ℕ) (wanted : List Change) (n : ℕ) : Type 0 where
-  pub has : (p : ℕ) (d : Change) → p < n → get (slice_cmp nat_cmp) places (change_line (slice_index_or wanted p d)) ≡ Some p
-  pub only : (text : List ℕ) (p : ℕ) → get (slice_cmp nat_cmp) places text ≡ Some p → (p < n) × ((d : Change) → text ≡ change_line (slice_index_or wanted p d))
+-- the map has the place of the key of each of the first n changes, and no other key
+pub record ArePlacesBy {K : Type 0} (cmp : K → K → Ordering) (key : Change → K) (places : BTreeMap K ℕ) (wanted : List Change) (n : ℕ) : Type 0 where
+  pub has : (p : ℕ) (d : Change) → p < n → get cmp places (key (slice_index_or wanted p d)) ≡ Some p
+  pub only : (k : K) (p : ℕ) → get cmp places k ≡ Some p → (p < n) × ((d : Change) → k ≡ key (slice_index_or wanted p d))
+
+-- the map has the place of the line of each of the first n changes
+abbrev pub ArePlaces : BTreeMap (List ℕ) ℕ → List Change → ℕ → Type 0
+ArePlaces places wanted n = ArePlacesBy (slice_cmp nat_cmp) change_line places wanted n
+
+-- the row and the transaction of a change
+abbrev pub name_of : Change → Name
+name_of c = record { row = c.row; tx = c.tx }
+
+-- by row, and then by transaction
+abbrev pub name_cmp : Name → Name → Ordering
+name_cmp a b = ordering_then (row_cmp a.row b.row) (slice_cmp nat_cmp a.tx b.tx)
 
 -- the place of the last of the first n changes that has this row
 abbrev pub IsLatest : List Change → ℕ → RowName → Option ℕ → Type 0

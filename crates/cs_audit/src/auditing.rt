@@ -13,11 +13,21 @@ use cs_output::Line;
 use cs_types::{Change, Duplicate, Memory, Stamp};
 use std::alloc::Global;
 
-/// Holds the lines of an output against the changes that are wanted, in their order, and the end.
-/// It answers the first line that is an offence, and of two offences of one line the one that stands
-/// first in `Verdict`; without an offence `Complete` or `Prefix`. The order of changes of different
-/// rows is free, and so are the watermarks in between. Wanted changes of different rows have
-/// different lines, and no two of them agree in both transaction and row.
+/// Holds the lines of an output against the changes that are wanted, in their order, and the end; the
+/// rules are this project's own. The first line that is an offence is answered, and of two offences
+/// of one line the one that stands first here:
+/// `Extra`, the line of no wanted change;
+/// `OutOfOrder`, not the next line of its row;
+/// `WatermarkEarly`, with the first wanted change up to it that does not stand before it;
+/// `WatermarkBack`, not above the last watermark, or above the end.
+/// Without an offence it is `Complete` where all wanted changes stand and the last line is the
+/// watermark of the end, else `Prefix` with the last watermark. Of lines from `read_lines` it is
+/// Complete exactly where their bytes are a complete output, and Prefix exactly where they are a good
+/// one that is not complete. `Memory` comes where there is none.
+///
+/// The order of changes of different rows is free. It takes n log n steps for n lines and wanted
+/// changes together. Wanted changes of different rows have different lines, and no two of them agree
+/// in both transaction and row; a caller that does not know it asks `can_be_audited`.
 pub fn audit(
     alloc: Global,
     lines: &[Line],

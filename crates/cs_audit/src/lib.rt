@@ -2,11 +2,13 @@
 #![tactic(auto)]
 
 mod auditing;
+mod conditions;
 mod index;
 mod seen;
 mod verdict;
 
 pub use auditing::audit;
+pub use conditions::can_be_audited;
 pub use verdict::Verdict;
 
 #[cfg(test)]

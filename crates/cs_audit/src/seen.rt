@@ -65,25 +65,19 @@ impl Seen {
         ensures next { (before : List Line) → IsKept self.old index.now before wanted.now end → MatchOption result (IsKept self.new index.now (before ++ line.now ∷ []) wanted.now end) (λ o. IsOffence o before wanted.now end line.now) }
     {
         match line {
-            Line::Change(text) => self.take_change(index, wanted, end, text),
+            Line::Change(text) => self.take_change(index, wanted, text),
             Line::Watermark(at) => self.take_watermark(index, wanted, end, *at),
         }
     }
 
-    fn take_change(
-        &mut self,
-        index: &Index,
-        wanted: &[Change],
-        end: Stamp,
-        text: &Text,
-    ) -> Option<Offence>
+    fn take_change(&mut self, index: &Index, wanted: &[Change], text: &Text) -> Option<Offence>
         requires index { IsIndex index.now wanted.now }
         requires apart { DifferInLines wanted.now }
         requires count { length self.old.stands.items ≡ length wanted.now }
         requires covered { self.old.covered ≤ length index.now.by_stamp.items }
         ensures count { length self.new.stands.items ≡ length wanted.now }
         ensures covered { self.new.covered ≤ length index.now.by_stamp.items }
-        ensures next { (before : List Line) → IsKept self.old index.now before wanted.now end → MatchOption result (IsKept self.new index.now (before ++ Line.Change text.now ∷ []) wanted.now end) (λ o. IsOffence o before wanted.now end (Line.Change text.now)) }
+        ensures next { (before : List Line) (end : ℕ) → IsKept self.old index.now before wanted.now end → MatchOption result (IsKept self.new index.now (before ++ Line.Change text.now ∷ []) wanted.now end) (λ o. IsOffence o before wanted.now end (Line.Change text.now)) }
     {
         let Some(place) = place_of(index, text) else {
             return Some(Offence::Extra);

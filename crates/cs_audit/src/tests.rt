@@ -1,6 +1,6 @@
 ghost use Rattle.std.specs.Prelude.{◌≡◌, ◌∷◌, [], IfOk, codes, pos};
 
-use crate::{Verdict, audit};
+use crate::{Verdict, audit, can_be_audited};
 use cs_output::read_lines;
 use cs_types::{Cell, Cells, Change, Items, Kind, Memory, RowName, Stamp, Text, Value};
 use std::alloc::Global;
@@ -61,6 +61,19 @@ fn insert(alloc: Global, stamp: Stamp) -> Result<Change, Memory> {
     })
 }
 
+/// Whether one insert, or the same one twice, can be audited.
+fn can(alloc: Global, twice: bool) -> Result<Option<bool>, Memory> {
+    let Some(second) = Stamp::of(1_714_521_601_000_000) else {
+        return Ok(None);
+    };
+    let mut wanted = Items::new(alloc);
+    wanted.push(insert(alloc, second)?)?;
+    if twice {
+        wanted.push(insert(alloc, second)?)?;
+    }
+    Ok(Some(can_be_audited(alloc, wanted.as_slice())?))
+}
+
 /// The verdict on a text, against one insert at a second that is the end too.
 fn verdict_on(alloc: Global, text: &[u8]) -> Result<Option<Verdict>, Memory> {
     let Some(end) = Stamp::of(1_714_521_601_000_000) else {
@@ -105,5 +118,12 @@ fn a_watermark_before_its_change_is_early(rt: HostRuntime) -> Result<(), Fail> {
 fn a_foreign_line_is_extra(rt: HostRuntime) -> Result<(), Fail> {
     let verdict = verdict_on(rt.alloc(), FOREIGN)?;
     assert!(rt; matches!(&verdict, Some(Verdict::Extra(1))));
+    Ok(())
+}
+
+#[test]
+fn a_change_twice_cannot_be_audited(rt: HostRuntime) -> Result<(), Fail> {
+    assert_eq!(rt; can(rt.alloc(), false)?, Some(true));
+    assert_eq!(rt; can(rt.alloc(), true)?, Some(false));
     Ok(())
 }

@@ -7,7 +7,7 @@ use Rattle.cs_audit.proofs.Next.{next_from_flags, flags_from_next, no_offence_mo
 use Rattle.cs_audit.proofs.seen.Seen.take_change.Goals as goal
 
 pub returns-then-not-is_next-clause-next : goal.returns-then-not-is_next-clause-next
-returns-then-not-is_next-clause-next c = λ before kept.
+returns-then-not-is_next-clause-next c = λ before end kept.
     let w = c.args.wanted.now in
     let place = c.in-Some.place in
     let found = c.requires.index.places.only c.args.text.now place (sym c.in-Some.ensures) in
@@ -20,17 +20,17 @@ returns-then-not-is_next-clause-next c = λ before kept.
     )
 
 pub returns-clause-next : goal.returns-clause-next
-returns-clause-next c = λ before kept.
+returns-clause-next c = λ before end kept.
     let w = c.args.wanted.now in
     let place = c.in-Some.place in
     let stands = c.args.self.now.stands.items in
     let found = c.requires.index.places.only c.args.text.now place (sym c.in-Some.ensures) in
     let d : Change = element w place found.0 in
     let is_free = rw c.deref.ensures.value at c.is_next.ensures.0 in
-    let next = next_from_flags stands before w c.args.end place d _ kept.right c.requires.apart kept.standing found.0 (c.requires.index.previous.each place d found.0) (is_free c.if-not-is_next.false) in
+    let next = next_from_flags stands before w end place d _ kept.right c.requires.apart kept.standing found.0 (c.requires.index.previous.each place d found.0) (is_free c.if-not-is_next.false) in
     let within : place < length stands = omega (arith, found.0, c.requires.count) in
     record {
-      right = no_offence_more before (Told c.args.text.now) w c.args.end kept.right (get_or w place d, found.1 d, next);
+      right = no_offence_more before (Told c.args.text.now) w end kept.right (get_or w place d, found.1 d, next);
       standing = standing_change stands before w place c.args.text.now c.requires.apart found.0 found.1 kept.standing;
       covered = covered_more stands c.args.index.now.by_stamp.items c.args.self.now.covered place within kept.covered;
       last = kept.last ∙ sym (last_of_change before c.args.text.now);

@@ -1,4 +1,4 @@
-use Rattle.std.proofs.Common.{◌≤◌, true≢false, sym, subst, ◌∙◌, arith}
+use Rattle.std.proofs.Common.{◌≤◌, true≢false, sym, subst, ◌∙◌, arith, inl, inr}
 use Rattle.cs_output.specs.declared.reading.Line.TheVariants.{Watermark}
 use Rattle.cs_audit.specs.Audit.{IsAbove}
 use Rattle.cs_audit.specs.Index.{AreCovered, NoneIsAbsent, IsFirstAbsent}
@@ -19,7 +19,7 @@ returns-then-not-is_above-clause-next c = λ before kept.
     let answer = rw (c.deref-3.ensures.value, c.deref-4.ensures.value) at c.in_default.ensures in
     let none : NoneIsAbsent c.args.self.now.stands.items c.args.wanted.now c.args.at = answer (more kept.covered) in (
       up_to_from_flags c.args.self.now.stands.items before c.args.wanted.now c.args.at kept.standing none,
-      λ above le. true≢false (sym (c.is_above.ensures.1 (subst (IsAbove c.args.at) (sym kept.last) above)) ∙ c.if-not-is_above.true),
+      inl (λ above. true≢false (sym (c.is_above.ensures.1 (subst (IsAbove c.args.at) (sym kept.last) above)) ∙ c.if-not-is_above.true)),
     )
 
 pub returns-then-us-clause-next : goal.returns-then-us-clause-next
@@ -27,7 +27,7 @@ returns-then-us-clause-next c = λ before kept.
     let more = rw (c.deref.ensures.value, c.deref-2.ensures.value) at c.cover-self.ensures.covered in
     let answer = rw (c.deref-3.ensures.value, c.deref-4.ensures.value) at c.in_default.ensures in
     let none : NoneIsAbsent c.args.self.now.stands.items c.args.wanted.now c.args.at = answer (more kept.covered) in
-    (up_to_from_flags c.args.self.now.stands.items before c.args.wanted.now c.args.at kept.standing none, λ above le. absurd (omega (arith, le)))
+    (up_to_from_flags c.args.self.now.stands.items before c.args.wanted.now c.args.at kept.standing none, inr (omega arith))
 
 pub returns-clause-next : goal.returns-clause-next
 returns-clause-next c = λ before kept.
