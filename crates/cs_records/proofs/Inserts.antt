@@ -1,5 +1,5 @@
 -- The inserts that the tests group.
-use Rattle.std.proofs.Common.{◌≡◌, ◌+◌, ◌<◌, ℕ, zero, suc, ℤ, pos, List, [], ◌∷◌, length, get_or, map, ◌++◌, negsuc, Bool, true, false, ◌||◌, inl, inr, refl, ap, ◌∙◌, sym, arith, All, codes}
+use Rattle.std.proofs.Common.{◌≡◌, ◌<◌, ℕ, ℤ, pos, List, [], ◌∷◌, length, get_or, map, ◌++◌, negsuc, Bool, true, false, ◌||◌, inl, inr, refl, ap, ◌∙◌, sym, arith, All, codes}
 use Rattle.std.specs.List.{IsDistinct}
 use Rattle.std.proofs.lemmas.Bool.{cases_lt}
 use Rattle.std.proofs.lemmas.List.{get_or-map, get_or_append_left, get_or_push, length-map, length_push}
