@@ -14,10 +14,12 @@ use Rattle.cs_json.specs.Reading.{Reading, first_and, each, required}
 use Rattle.cs_json.specs.Members.{tree_or_text}
 use Rattle.cs_json.specs.Columns.{column_type}
 
+-- the cell of a column, where its value was read
 abbrev pub cell_of_value : List ℕ → Result Value ValueFault → Reading Cell
 cell_of_value name (Ok v) = Ok (record { column = name; value = v })
 cell_of_value name (Err e) = Err (BadValue name)
 
+-- the cell of a column of a type; a column that is not listed has none
 abbrev pub cell_of_type : List ℕ → Data → Option ColumnType → Reading Cell
 cell_of_type name d None = Err (BadValue name)
 cell_of_type name d (Some ty) = cell_of_value name (value_reading ty d)
@@ -31,10 +33,12 @@ abbrev pub each_cell : List ColumnInfo → Members → Reading (List Cell)
 each_cell columns no_members = Ok []
 each_cell columns (member name d ms) = first_and (cell_reading columns name d) (each_cell columns ms)
 
+-- the cells of an object; anything else is bad
 abbrev pub cells_of_members : List ColumnInfo → List ℕ → Option Members → Reading (List Cell)
 cells_of_members columns name None = Err (BadValue name)
 cells_of_members columns name (Some ms) = each_cell columns ms
 
+-- the cells of a tree, where there is one
 abbrev pub cells_of_tree : List ColumnInfo → List ℕ → Option Data → Reading (List Cell)
 cells_of_tree columns name None = Err (BadValue name)
 cells_of_tree columns name (Some d) = cells_of_members columns name (as_object d)
@@ -43,6 +47,7 @@ cells_of_tree columns name (Some d) = cells_of_members columns name (as_object d
 abbrev pub cells_of : List ColumnInfo → List ℕ → Data → Reading (List Cell)
 cells_of columns name d = cells_of_tree columns name (tree_or_text d)
 
+-- the cells of a member that must be there
 abbrev pub required_cells : List ColumnInfo → List ℕ → Option Data → Reading (List Cell)
 required_cells columns name None = Err (Member name)
 required_cells columns name (Some d) = cells_of columns name d
@@ -52,6 +57,7 @@ abbrev pub optional_cells : List ColumnInfo → List ℕ → Option Data → Rea
 optional_cells columns name None = Ok []
 optional_cells columns name (Some d) = if is_some (as_null d) then Ok [] else cells_of columns name d
 
+-- the mod of its three parts, or the first fault in their order
 abbrev pub mod_from : Reading (List Cell) → Reading (List Cell) → Reading (List Cell) → Reading Mod
 mod_from (Err e) new old = Err e
 mod_from (Ok keys) (Err e) old = Err e
@@ -72,5 +78,6 @@ some_mods columns (Err e) = Err e
 some_mods columns (Ok no_items) = Err (BadValue (codes "mods"))
 some_mods columns (Ok (item d ds)) = each (mod_reading columns) (item d ds)
 
+-- the mods of a data change record, with its columns
 unfoldable pub mods_reading : List ColumnInfo → Data → Reading (List Mod)
 mods_reading columns d = some_mods columns (required as_array (codes "mods") d)

@@ -17,6 +17,7 @@ use Rattle.cs_json.specs.Members.{stamp_value, sequence_value, transaction_value
 use Rattle.cs_json.specs.Columns.{columns_reading}
 use Rattle.cs_json.specs.Cells.{mods_reading}
 
+-- the place of its parts, or the first fault in their order
 abbrev pub place_from : Reading ℕ → Reading ℕ → Reading (List ℕ) → Reading Bool → Reading (List ℕ) → Reading Place
 place_from (Err e) sequence tx last table = Err e
 place_from (Ok stamp) (Err e) tx last table = Err e
@@ -34,10 +35,12 @@ place_reading d = place_from (required stamp_value (codes "commit_timestamp") d)
     (required as_bool (codes "is_last_record_in_transaction_in_partition") d)
     (required name_value (codes "table_name") d)
 
+-- columns, and mods where they were read
 abbrev pub rows_with : List ColumnInfo → Reading (List Mod) → Reading Rows
 rows_with columns (Err e) = Err e
 rows_with columns (Ok mods) = Ok (record { columns = columns; mods = mods })
 
+-- columns where they were read, and the mods with them
 abbrev pub rows_from : Data → Reading (List ColumnInfo) → Reading Rows
 rows_from d (Err e) = Err e
 rows_from d (Ok columns) = rows_with columns (mods_reading columns d)
@@ -46,6 +49,7 @@ rows_from d (Ok columns) = rows_with columns (mods_reading columns d)
 unfoldable pub rows_reading : Data → Reading Rows
 rows_reading d = rows_from d (columns_reading d)
 
+-- the facts of their parts, or the first fault in their order
 abbrev pub facts_from : Reading Kind → Reading CaptureType → Reading ℕ → Reading ℕ → Reading (List ℕ) → Reading Bool → Reading Facts
 facts_from (Err e) capture records parts tag system = Err e
 facts_from (Ok kind) (Err e) records parts tag system = Err e
@@ -65,6 +69,7 @@ facts_reading d = facts_from (required kind_value (codes "mod_type") d)
     (optional [] as_str (codes "transaction_tag") d)
     (optional false as_bool (codes "is_system_transaction") d)
 
+-- the record of its three parts, or the first fault in their order
 abbrev pub change_from : Reading Place → Reading Rows → Reading Facts → Reading Record
 change_from (Err e) rows facts = Err e
 change_from (Ok place) (Err e) facts = Err e

@@ -9,6 +9,7 @@ use Rattle.cs_records.specs.declared.records.Record.TheVariants.{Heartbeat, Chil
 use Rattle.cs_json.specs.Reading.{Reading, required, optional, each_in}
 use Rattle.cs_json.specs.Members.{stamp_value, sequence_value, token_value, tokens_value}
 
+-- the record of a stamp, where it was read
 abbrev pub heartbeat_from : Reading ℕ → Reading Record
 heartbeat_from (Ok at) = Ok (Heartbeat at)
 heartbeat_from (Err e) = Err e
@@ -18,6 +19,7 @@ unfoldable pub heartbeat_reading : Data → Reading Record
 heartbeat_reading d = if is_some (as_object d) then heartbeat_from (required stamp_value (codes "timestamp") d)
     else Err (BadValue (codes "heartbeat_record"))
 
+-- the child of its parts, or the first fault in their order
 abbrev pub child_from : Reading (List ℕ) → Reading (List (List ℕ)) → Reading Child
 child_from (Err e) parents = Err e
 child_from (Ok token) (Err e) = Err e
@@ -29,6 +31,7 @@ child_reading d = if is_some (as_object d)
     then child_from (required token_value (codes "token") d) (optional [] tokens_value (codes "parent_partition_tokens") d)
     else Err (BadValue (codes "child_partitions"))
 
+-- the record of its parts, or the first fault in their order
 abbrev pub children_from : Reading ℕ → Reading ℕ → Reading (List Child) → Reading Record
 children_from (Err e) sequence children = Err e
 children_from (Ok start) (Err e) children = Err e

@@ -20,6 +20,7 @@ type_of_tree d = option_and_then code_reading (option_and_then as_str (get (code
 abbrev pub type_value : Data → Option ColumnType
 type_value d = option_and_then type_of_tree (tree_or_text d)
 
+-- the column of its parts, or the first fault in their order
 abbrev pub column_from : Reading (List ℕ) → Reading ColumnType → Reading Bool → Reading ℕ → Reading ColumnInfo
 column_from (Err e) ty key ordinal = Err e
 column_from (Ok name) (Err e) key ordinal = Err e
@@ -48,6 +49,7 @@ abbrev pub first_again : List ColumnInfo → List ColumnInfo → Option (List �
 first_again earlier [] = None
 first_again earlier (c ∷ cs) = if is_some (column_type c.name earlier) then Some c.name else first_again (earlier ++ c ∷ []) cs
 
+-- what is read, unless a name is bad
 abbrev pub unless_bad : {A : Type 0} → Option (List ℕ) → Reading A → Reading A
 unless_bad None reading = reading
 unless_bad (Some name) reading = Err (BadValue name)
@@ -56,6 +58,7 @@ unless_bad (Some name) reading = Err (BadValue name)
 abbrev pub apart : List ColumnInfo → Reading (List ColumnInfo)
 apart columns = unless_bad (first_again [] columns) (Ok columns)
 
+-- columns that were read, where no two of them have one name
 abbrev pub apart_in : Reading (List ColumnInfo) → Reading (List ColumnInfo)
 apart_in (Err e) = Err e
 apart_in (Ok columns) = apart columns

@@ -13,10 +13,12 @@ use Rattle.cs_json.specs.Columns.{unless_bad}
 use Rattle.cs_json.specs.Changes.{change_reading}
 use Rattle.cs_json.specs.Telling.{Tells}
 
+-- the first heartbeat that there is
 abbrev pub first_heartbeat : Items → Reading Record
 first_heartbeat no_items = Err ArrayCount
 first_heartbeat (item d ds) = heartbeat_reading d
 
+-- the first data change record that there is, else the first heartbeat
 abbrev pub first_change : Items → Items → Reading Record
 first_change (item d ds) heartbeats = change_reading d
 first_change no_items heartbeats = first_heartbeat heartbeats
@@ -26,10 +28,12 @@ abbrev pub first_element : Items → Items → Items → Reading Record
 first_element (item d ds) changes heartbeats = children_reading d
 first_element no_items changes heartbeats = first_change changes heartbeats
 
+-- the record of the one element, where each of the three is an array, absent or null
 unfoldable pub element_reading : Data → Reading Record
 element_reading d = unless_bad (bad_array d) (first_element (elements (get (codes "child_partitions_record") d))
     (elements (get (codes "data_change_record") d)) (elements (get (codes "heartbeat_record") d)))
 
+-- what is read, unless a member is absent
 abbrev pub unless_missing : Option (List ℕ) → Reading Record → Reading Record
 unless_missing None reading = reading
 unless_missing (Some name) reading = Err (Member name)
@@ -38,9 +42,11 @@ unless_missing (Some name) reading = Err (Member name)
 unfoldable pub tree_reading : Data → Reading Record
 tree_reading d = unless_missing (missing d) (if count d == 1 then element_reading d else Err ArrayCount)
 
+-- the record of an object; anything else is none
 abbrev pub object_reading : Data → Reading Record
 object_reading d = if is_some (as_object d) then tree_reading d else Err NotJson
 
+-- the record of a tree, where there is one
 abbrev pub of_tree : Option Data → Reading Record
 of_tree None = Err NotJson
 of_tree (Some d) = object_reading d

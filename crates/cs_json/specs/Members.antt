@@ -12,24 +12,31 @@ use Rattle.cs_json.specs.Texts.{stamp_reading, sequence_reading, in_63_bits, dig
 abbrev pub of_text : {A : Type 0} → (List ℕ → Option A) → Data → Option A
 of_text f d = option_and_then f (as_str d)
 
+-- a text that spells a stamp
 abbrev pub stamp_value : Data → Option ℕ
 stamp_value d = of_text stamp_reading d
 
+-- a text of 1 to 8 digits
 abbrev pub sequence_value : Data → Option ℕ
 sequence_value d = of_text sequence_reading d
 
+-- a text that can be the id of a transaction
 abbrev pub transaction_value : Data → Option (List ℕ)
 transaction_value d = of_text (where_it_is is_transaction) d
 
+-- a text that can be the name of a table
 abbrev pub name_value : Data → Option (List ℕ)
 name_value d = of_text (where_it_is is_name) d
 
+-- the word for a kind of write
 abbrev pub kind_value : Data → Option Kind
 kind_value d = of_text kind_reading d
 
+-- the words for a capture type
 abbrev pub capture_value : Data → Option CaptureType
 capture_value d = of_text capture_reading d
 
+-- a text that is a token
 abbrev pub token_value : Data → Option (List ℕ)
 token_value d = of_text token_reading d
 
@@ -42,9 +49,11 @@ abbrev pub number_first : Option Num → Option (List ℕ) → Option ℕ
 number_first None text = option_and_then digits_reading text
 number_first (Some n) text = number_value n
 
+-- a whole number from 0 to 2^63 - 1, as a number or as a text
 abbrev pub whole_value : Data → Option ℕ
 whole_value d = number_first (as_number d) (as_str d)
 
+-- the number, where it is one of 32 bits
 abbrev pub in_32_bits : ℕ → Option ℕ
 in_32_bits n = if nat_lt n (2 ^ 32) then Some n else None
 
@@ -52,6 +61,7 @@ in_32_bits n = if nat_lt n (2 ^ 32) then Some n else None
 abbrev pub ordinal_value : Data → Option ℕ
 ordinal_value d = option_and_then in_32_bits (whole_value d)
 
+-- a token before others, where all are tokens
 abbrev pub next_token : Option (List ℕ) → Option (List (List ℕ)) → Option (List (List ℕ))
 next_token None rest = None
 next_token (Some t) None = None
@@ -71,6 +81,7 @@ tokens_behind before (Some ts) = Some (before ++ ts)
 abbrev pub tokens_value : Data → Option (List (List ℕ))
 tokens_value d = if is_some (as_null d) then Some [] else option_and_then each_token (as_array d)
 
+-- the tree that a text holds, where the tree is one
 abbrev pub held_tree : Data → Option (List ℕ) → Option Data
 held_tree d None = Some d
 held_tree d (Some text) = read text

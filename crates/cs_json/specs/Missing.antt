@@ -28,15 +28,18 @@ abbrev pub elements : Option Data → Items
 elements (Some (array ds)) = ds
 elements _ = no_items
 
+-- what a column must have
 abbrev pub column_members : List (List ℕ)
 column_members = codes "name" ∷ codes "type" ∷ codes "is_primary_key" ∷ codes "ordinal_position" ∷ []
 
+-- what a data change record must have
 abbrev pub change_members : List (List ℕ)
 change_members = codes "commit_timestamp" ∷ codes "record_sequence" ∷ codes "server_transaction_id"
     ∷ codes "is_last_record_in_transaction_in_partition" ∷ codes "table_name" ∷ codes "column_types" ∷ codes "mods"
     ∷ codes "mod_type" ∷ codes "value_capture_type" ∷ codes "number_of_records_in_transaction"
     ∷ codes "number_of_partitions_in_transaction" ∷ []
 
+-- what a child partitions record must have
 abbrev pub children_members : List (List ℕ)
 children_members = codes "start_timestamp" ∷ codes "record_sequence" ∷ codes "child_partitions" ∷ []
 
@@ -51,6 +54,7 @@ abbrev pub missing_in_children : Data → Option (List ℕ)
 missing_in_children d = or_this (missing_in children_members d)
     (first_of (missing_in (codes "token" ∷ [])) (elements (get (codes "child_partitions") d)))
 
+-- in a heartbeat record
 abbrev pub missing_in_heartbeat : Data → Option (List ℕ)
 missing_in_heartbeat d = missing_in (codes "timestamp" ∷ []) d
 

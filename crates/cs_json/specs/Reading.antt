@@ -5,6 +5,7 @@ use Rattle.serde_json.specs.Find.{get}
 use Rattle.cs_records.specs.declared.faults.LineFault.{LineFault}
 use Rattle.cs_records.specs.declared.faults.LineFault.TheVariants.{Member, BadValue, Memory}
 
+-- something that was read, or the fault for which it was refused
 abbrev pub Reading : Type 0 → Type 0
 Reading A = Result A LineFault
 

@@ -38,13 +38,16 @@ pub record HasEach {A : Type 0} (R : A → Data → Type 0) (name : List ℕ) (d
 
 -- ---- heartbeats and children
 
+-- a heartbeat is its timestamp
 abbrev pub TellsHeartbeat : ℕ → Data → Type 0
 TellsHeartbeat at d = Has stamp_value (codes "timestamp") d at
 
+-- a child: absent parents are none
 pub record TellsChild (c : Child) (d : Data) : Type 0 where
   pub token : Has token_value (codes "token") d c.token
   pub parents : HasOr [] tokens_value (codes "parent_partition_tokens") d c.parents
 
+-- a child partitions record
 pub record TellsChildren (c : ChildRecord) (d : Data) : Type 0 where
   pub start : Has stamp_value (codes "start_timestamp") d c.start
   pub sequence : Has sequence_value (codes "record_sequence") d c.sequence
@@ -52,6 +55,7 @@ pub record TellsChildren (c : ChildRecord) (d : Data) : Type 0 where
 
 -- ---- columns and cells
 
+-- a column
 pub record TellsColumn (c : ColumnInfo) (d : Data) : Type 0 where
   pub name : Has as_str (codes "name") d c.name
   pub type : Has type_value (codes "type") d c.ty
@@ -78,6 +82,7 @@ pub record TellsCells (columns : List ColumnInfo) (cells : List Cell) (d : Data)
   pub object : option_and_then as_object (tree_or_text d) ≡ Some members
   pub each : EachCell columns cells members
 
+-- the object has a member that tells cells
 pub record HasCells (columns : List ColumnInfo) (name : List ℕ) (d : Data) (cells : List Cell) : Type 0 where
   pub tree : Data
   pub there : get name d ≡ Some tree
@@ -88,6 +93,7 @@ abbrev pub MayHaveCells : List ColumnInfo → List ℕ → Data → List Cell �
 MayHaveCells columns name d cells =
     ((get name d ≡ None) × (cells ≡ [])) ⊎ ((get name d ≡ Some null) × (cells ≡ [])) ⊎ HasCells columns name d cells
 
+-- a mod
 pub record TellsMod (columns : List ColumnInfo) (m : Mod) (d : Data) : Type 0 where
   pub keys : HasCells columns (codes "keys") d m.keys
   pub new_values : MayHaveCells columns (codes "new_values") d m.new
@@ -95,6 +101,7 @@ pub record TellsMod (columns : List ColumnInfo) (m : Mod) (d : Data) : Type 0 wh
 
 -- ---- data change records
 
+-- a data change record: an absent tag is the empty text, and one that does not say so is not of the system
 pub record TellsChange (r : DataRecord) (d : Data) : Type 0 where
   pub commit_timestamp : Has stamp_value (codes "commit_timestamp") d r.stamp
   pub record_sequence : Has sequence_value (codes "record_sequence") d r.sequence

@@ -43,6 +43,7 @@ digits_reading text = if is_digits text then in_63_bits (digits_value 10 text) e
 unfoldable pub is_transaction : List ℕ → Bool
 is_transaction text = nat_lt 0 (length text) && nat_le (length text) 64 && are_token_bytes text
 
+-- a letter of ASCII
 abbrev pub is_letter : ℕ → Bool
 is_letter c = (nat_le 65 c && nat_le c 90) || (nat_le 97 c && nat_le c 122)
 
@@ -50,10 +51,12 @@ is_letter c = (nat_le 65 c && nat_le c 90) || (nat_le 97 c && nat_le c 122)
 abbrev pub is_name_byte : ℕ → Bool
 is_name_byte c = is_letter c || (nat_le 48 c && nat_le c 57) || c == 95
 
+-- each byte is one of a name
 abbrev pub are_name_bytes : List ℕ → Bool
 are_name_bytes [] = true
 are_name_bytes (c ∷ cs) = is_name_byte c && are_name_bytes cs
 
+-- a letter, and each other byte one of a name
 abbrev pub begins_as_name : List ℕ → Bool
 begins_as_name [] = false
 begins_as_name (c ∷ cs) = is_letter c && are_name_bytes cs
@@ -72,6 +75,7 @@ kind_text Insert = codes "INSERT"
 kind_text Update = codes "UPDATE"
 kind_text Delete = codes "DELETE"
 
+-- the kind of write of a word
 abbrev pub kind_reading : List ℕ → Option Kind
 kind_reading text =
     if bytes_eq text (codes "INSERT") then Some Insert
@@ -85,6 +89,7 @@ capture_text NewValues = codes "NEW_VALUES"
 capture_text NewRow = codes "NEW_ROW"
 capture_text NewRowAndOldValues = codes "NEW_ROW_AND_OLD_VALUES"
 
+-- the capture type of its words
 abbrev pub capture_reading : List ℕ → Option CaptureType
 capture_reading text =
     if bytes_eq text (codes "OLD_AND_NEW_VALUES") then Some OldAndNewValues
@@ -102,6 +107,7 @@ code_text Bytes = codes "BYTES"
 code_text Date = codes "DATE"
 code_text Timestamp = codes "TIMESTAMP"
 
+-- the type of a code
 abbrev pub code_reading : List ℕ → Option ColumnType
 code_reading text =
     if bytes_eq text (codes "BOOL") then Some bool_type

@@ -22,21 +22,26 @@ use Rattle.cs_json.specs.Columns.{column_type, first_again}
 
 -- ---- the written tree
 
+-- a heartbeat record
 abbrev pub heartbeat_data : ℕ → Data
 heartbeat_data at = object (member (codes "timestamp") (string (stamp_text at)) no_members)
 
+-- a child
 abbrev pub child_data : Child → Data
 child_data c = object (member (codes "parent_partition_tokens") (array (items_of (map string c.parents)))
     (member (codes "token") (string c.token) no_members))
 
+-- a child partitions record
 abbrev pub children_data : ChildRecord → Data
 children_data c = object (member (codes "child_partitions") (array (items_of (map child_data c.children)))
     (member (codes "record_sequence") (string (eight_digits c.sequence))
     (member (codes "start_timestamp") (string (stamp_text c.start)) no_members)))
 
+-- a type
 abbrev pub type_data : ColumnType → Data
 type_data ty = object (member (codes "code") (string (code_text ty)) no_members)
 
+-- a column
 abbrev pub column_data : ColumnInfo → Data
 column_data c = object (member (codes "is_primary_key") (boolean c.is_key)
     (member (codes "name") (string c.name)
@@ -48,6 +53,7 @@ abbrev pub cells_members : List Cell → Members
 cells_members [] = no_members
 cells_members (c ∷ cs) = member c.column (value_data c.value) (cells_members cs)
 
+-- a mod
 abbrev pub mod_data : Mod → Data
 mod_data m = object (member (codes "keys") (object (cells_members m.keys))
     (member (codes "new_values") (object (cells_members m.new))
@@ -64,6 +70,7 @@ last_members r =
     (member (codes "transaction_tag") (string r.tag)
     (member (codes "value_capture_type") (string (capture_text r.capture)) no_members))))))
 
+-- a data change record
 abbrev pub change_data : DataRecord → Data
 change_data r =
     object (member (codes "column_types") (array (items_of (map column_data r.columns)))
@@ -74,6 +81,7 @@ change_data r =
     (member (codes "mods") (array (items_of (map mod_data r.mods)))
     (last_members r)))))))
 
+-- the object of a line with these elements
 abbrev pub line_data : Items → Items → Items → Data
 line_data children changes heartbeats =
     object (member (codes "child_partitions_record") (array children)
@@ -92,6 +100,7 @@ record_line r = compact_text (record_data r)
 
 -- ---- the records for which a line can stand
 
+-- the value is NULL or of the type, where there is one
 abbrev pub OfColumn : Option ColumnType → Value → Type 0
 OfColumn None v = ⊥
 OfColumn (Some ty) v = IsOfType ty v
@@ -100,6 +109,7 @@ OfColumn (Some ty) v = IsOfType ty v
 abbrev pub IsListed : List ColumnInfo → Cell → Type 0
 IsListed columns c = OfColumn (column_type c.column columns) c.value
 
+-- each cell of the mod is one of a listed column
 pub record IsListedMod (columns : List ColumnInfo) (m : Mod) : Type 0 where
   pub keys : All (IsListed columns) m.keys
   pub new : All (IsListed columns) m.new
@@ -130,11 +140,13 @@ pub record AreKept (cells : List Cell) : Type 0 where
   pub ordered : AreCells cells
   pub within : All (λ c. IsWithin c.value) cells
 
+-- what the type of a mod keeps
 pub record IsKeptMod (m : Mod) : Type 0 where
   pub keys : AreKept m.keys
   pub new : AreKept m.new
   pub old : AreKept m.old
 
+-- what the type of a child keeps
 pub record IsKeptChild (c : Child) : Type 0 where
   pub token : is_token c.token ≡ true
   pub parents : All (λ t. is_token t ≡ true) c.parents

@@ -1,4 +1,4 @@
-ghost use Rattle.std.specs.Prelude.{◌≡◌, Some, All, IfOk, codes};
+ghost use Rattle.std.specs.Prelude.{◌≡◌, Some, All, IfOk};
 ghost use Rattle.serde_json.specs.Find.{get};
 ghost use Rattle.serde_json.specs.View.{view, members_view};
 ghost use Rattle.cs_types.specs.Cells.{IsRising};

@@ -1,4 +1,3 @@
-ghost use Rattle.std.specs.Prelude.{◌≡◌, [], false};
 ghost use Rattle.serde_json.specs.View.{view};
 ghost use Rattle.cs_json.specs.Reading.{Gives};
 ghost use Rattle.cs_json.specs.Changes.{place_reading, rows_reading, facts_reading, change_reading};

@@ -1,4 +1,3 @@
-ghost use Rattle.std.specs.Prelude.{◌≡◌};
 ghost use Rattle.serde_json.specs.View.{view};
 ghost use Rattle.cs_json.specs.Reading.{Gives};
 ghost use Rattle.cs_json.specs.Children.{heartbeat_reading, child_reading, children_reading};

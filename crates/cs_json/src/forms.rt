@@ -1,7 +1,6 @@
-ghost use Rattle.std.specs.Prelude.{◌≡◌, IfOk, option_and_then};
-ghost use Rattle.serde_json.specs.Find.{as_bool, as_str};
+ghost use Rattle.std.specs.Prelude.{◌≡◌, IfOk};
 ghost use Rattle.serde_json.specs.View.{view, items_view, number_view};
-ghost use Rattle.cs_json.specs.Members.{stamp_value, sequence_value, transaction_value, name_value, kind_value, capture_value, token_value, tokens_value, each_token, number_value, whole_value, ordinal_value};
+ghost use Rattle.cs_json.specs.Members.{each_token, number_value, whole_value};
 
 use crate::form::Form;
 use crate::text::{capture_of, digits_of, is_name, is_transaction, kind_of, sequence_of, stamp_of};

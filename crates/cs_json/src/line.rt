@@ -36,6 +36,8 @@ pub const LINE_END: usize = 8_388_608;
 /// - `BadValue(name)`: a member has a value that it cannot have, a column's name stands twice, or a
 ///   cell is of no listed column or not of its column's type. The name is the member's, the
 ///   column's, or for an element that is no object its array's.
+///
+/// It takes time in the size of the line, and a search among the columns for each cell.
 pub fn record_from_line(alloc: Global, line: &[u8]) -> Result<Record, LineFault>
     ensures reading { Gives result (line_reading line.now) }
     ensures short { IfOk result (λ _. length line.now ≤ line_end) }
