@@ -231,6 +231,47 @@ def cases(seed, count):
     return rows + refusals(rng)
 
 
+def change_lines(tree):
+    """The output lines of the changes that a record tells."""
+    lines = []
+    for data in tree["data_change_record"]:
+        for mod in data["mods"]:
+            stamp = data["commit_timestamp"]
+            lines.append(written({"key": mod["keys"], "kind": data["mod_type"], "new": mod["new_values"], "old": mod["old_values"], "stamp": stamp, "table": data["table_name"], "tx": data["server_transaction_id"]}))
+    return lines
+
+
+WORKED = [
+    # members in another order, numbers in place of texts, an unknown member
+    ('{"data_change_record":[{"commit_timestamp":"2024-05-01T00:00:01.500000000Z","record_sequence":"00000000","server_transaction_id":"t9","is_last_record_in_transaction_in_partition":true,"table_name":"T","column_types":[{"name":"K","type":{"code":"INT64"},"is_primary_key":true,"ordinal_position":1},{"name":"A","type":{"code":"INT64"},"is_primary_key":false,"ordinal_position":2}],"mods":[{"keys":{"K":7},"new_values":{"A":8},"old_values":{}}],"mod_type":"INSERT","value_capture_type":"NEW_VALUES","number_of_records_in_transaction":1,"number_of_partitions_in_transaction":1,"extra":1}]}',
+     '{"key":{"K":"7"},"kind":"INSERT","new":{"A":"8"},"old":{},"stamp":"2024-05-01T00:00:01.500000Z","table":"T","tx":"t9"}'),
+    # one key twice
+    ('{"data_change_record":[{"commit_timestamp":"2024-05-01T00:00:01Z","record_sequence":"0","server_transaction_id":"t9","is_last_record_in_transaction_in_partition":true,"table_name":"T","column_types":[{"name":"K","type":{"code":"INT64"},"is_primary_key":true,"ordinal_position":1}],"mods":[{"keys":{"K":"1"}},{"keys":{"K":"1"}}],"mod_type":"DELETE","value_capture_type":"NEW_VALUES","number_of_records_in_transaction":1,"number_of_partitions_in_transaction":1}]}',
+     "KeyTwice T"),
+    # a key column that the keys lack
+    ('{"data_change_record":[{"commit_timestamp":"2024-05-01T00:00:01Z","record_sequence":"0","server_transaction_id":"t9","is_last_record_in_transaction_in_partition":true,"table_name":"T","column_types":[{"name":"K","type":{"code":"INT64"},"is_primary_key":true,"ordinal_position":1}],"mods":[{"keys":{}}],"mod_type":"DELETE","value_capture_type":"NEW_VALUES","number_of_records_in_transaction":1,"number_of_partitions_in_transaction":1}]}',
+     "KeyMissing K"),
+]
+
+
+def check_changes(note, run, path):
+    """The changes that records tell: some worked by hand, and those of random records whose keys differ."""
+    rng = random.Random(20240502)
+    rows = [(line, [answer]) for line, answer in WORKED]
+    while len(rows) < 200:
+        tree = record(rng)
+        keys = [written(mod["keys"]) for data in tree["data_change_record"] for mod in data["mods"]]
+        if len(keys) == len(set(keys)):
+            rows.append((spelled(rng, loosened(rng, tree)), change_lines(tree)))
+    with open(path, "w", encoding="utf-8", newline="") as file:
+        for line, _ in rows:
+            file.write(line + "\n")
+    ran = run(["changes", path])
+    answers = [it for it in ran.stdout.decode().split("\n") if it]
+    wanted = [it for _, lines in rows for it in lines]
+    note(ran.returncode == 0 and answers == wanted, "changes of record lines", f"status {ran.returncode}, {[pair for pair in zip(answers, wanted) if pair[0] != pair[1]][:1]}, {len(answers)} and {len(wanted)}")
+
+
 def check(note, run, path):
     """Runs the program that reads and writes back each line of a file, and compares."""
     rows = cases(20240501, 400)
@@ -238,6 +279,7 @@ def check(note, run, path):
         for line, _ in rows:
             file.write(line + "\n")
     ran = run(["lines", path])
+    check_changes(note, run, path)
     answers = ran.stdout.decode().split("\n")
     note(ran.returncode == 0 and len(answers) == len(rows) + 1, "record lines: an answer for each", f"status {ran.returncode}, {len(answers) - 1} answers to {len(rows)} lines")
     wrong = [(line[:300], wanted[:300], answer[:300]) for (line, wanted), answer in zip(rows, answers) if answer != wanted]

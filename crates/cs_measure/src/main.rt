@@ -17,6 +17,7 @@ const HELP: &str = "usage:
   audit N      audits the output of N commits
   fill         fills a history to its limit
   lines FILE   reads each line as a record, and writes it back
+  changes FILE reads each line as a record, and writes the changes that it tells
 ";
 
 fn main(rt: HostRuntime) -> ExitCode {
@@ -41,6 +42,7 @@ fn answer_of(rt: &HostRuntime, words: &[String]) -> Result<String, Trouble> {
     match words {
         [command] if command.as_str() == "fill" => commits::fill(alloc),
         [command, file] if command.as_str() == "lines" => records::lines(rt, file.as_str()),
+        [command, file] if command.as_str() == "changes" => records::changes(rt, file.as_str()),
         [command, count] => numbered(alloc, command.as_str(), count.as_str()),
         _ => Err(Trouble::Words),
     }

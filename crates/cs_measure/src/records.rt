@@ -1,8 +1,10 @@
-//! Record lines, read and written back.
+//! Record lines, read and written back, and the changes that they tell.
 
 use crate::trouble::Trouble;
 use cs_json::{record_from_line, record_to_line};
-use cs_records::LineFault;
+use cs_output::line_of;
+use cs_records::{DataRecord, LineFault, Record, RecordFault, changes_of};
+use cs_types::Change;
 use std::alloc::Global;
 use std::fs;
 
@@ -10,9 +12,7 @@ use std::fs;
 /// fault for which it stands for none; one line each.
 pub fn lines(rt: &HostRuntime, path: &str) -> Result<String, Trouble> {
     let alloc = rt.alloc();
-    let Ok(text) = fs::read_to_string(rt, path) else {
-        return Err(Trouble::Unexpected("the file cannot be read"));
-    };
+    let text = content(rt, path)?;
     let mut answers = String::new(alloc);
     for line in text.lines() {
         if !answers.is_empty() {
@@ -21,6 +21,58 @@ pub fn lines(rt: &HostRuntime, path: &str) -> Result<String, Trouble> {
         answer_to(alloc, &mut answers, line)?;
     }
     Ok(answers)
+}
+
+/// Reads each line of a file as a record, and gives the output lines of the changes that it tells,
+/// or why it tells none; a record that tells of no changes gives nothing.
+pub fn changes(rt: &HostRuntime, path: &str) -> Result<String, Trouble> {
+    let alloc = rt.alloc();
+    let text = content(rt, path)?;
+    let mut answers = String::new(alloc);
+    for line in text.lines() {
+        let read = record_from_line(alloc, line.as_bytes());
+        if let Ok(Record::Change(item)) = &read {
+            tell(alloc, &mut answers, item)?;
+        }
+    }
+    Ok(answers)
+}
+
+fn content(rt: &HostRuntime, path: &str) -> Result<String, Trouble> {
+    match fs::read_to_string(rt, path) {
+        Ok(text) => Ok(text),
+        Err(_) => Err(Trouble::Unexpected("the file cannot be read")),
+    }
+}
+
+fn tell(alloc: Global, answers: &mut String, item: &DataRecord) -> Result<(), Trouble> {
+    let told = changes_of(alloc, item);
+    match told {
+        Ok(changes) => tell_each(alloc, answers, changes.as_slice()),
+        Err(RecordFault::KeyMissing(column)) => {
+            answers.push_str("KeyMissing ")?;
+            push_line(answers, column.as_str())
+        }
+        Err(RecordFault::KeyTwice(row)) => {
+            answers.push_str("KeyTwice ")?;
+            push_line(answers, row.table.as_str())
+        }
+        Err(RecordFault::Memory) => Err(Trouble::Memory),
+    }
+}
+
+fn tell_each(alloc: Global, answers: &mut String, changes: &[Change]) -> Result<(), Trouble> {
+    for change in changes {
+        let line = line_of(alloc, change)?;
+        push_line(answers, line.as_str())?;
+    }
+    Ok(())
+}
+
+fn push_line(answers: &mut String, line: &str) -> Result<(), Trouble> {
+    answers.push_str(line)?;
+    answers.push('\n')?;
+    Ok(())
 }
 
 fn answer_to(alloc: Global, answers: &mut String, line: &str) -> Result<(), Trouble> {
