@@ -175,3 +175,10 @@ GOOD_SCRIPTS = [
     ("of 10,000 commits", *many(10000)),
     ("with a text of signs", PREAMBLE + insert(b=b" !#$%&'()*+,-./:;<=>?@[]^_`{|}~"), WINDOW, change(b=b" !#$%&'()*+,-./:;<=>?@[]^_`{|}~") + watermark(END)),
 ]
+
+# what the program answers that runs the libraries
+MEASURED = [
+    (["commit", "3000"], b"commit 3000: 3000 modifications\n"),
+    (["audit", "3000"], b"audit 3000: 3000 changes, 3001 lines, Complete\n"),
+    (["fill"], b"fill: 2048 modifications, RowTooLarge at one byte more, HistoryFull at one row more\n"),
+]
