@@ -44,6 +44,7 @@ pub next_is : (captured : List Captured) (at count sequence : ℕ) (first : Capt
     → r ≡ record_of sequence first (first ∷ take count (drop (at + 1) captured)) (drop count (drop (at + 1) captured))
     → IsNext sequence (drop at captured) (drop (at + length r.mods) captured) r
 next_is captured at count sequence first r first-is lt few within alike ends is =
+    let more : List Captured = take count (drop (at + 1) captured) in
     let size : length (take count (drop (at + 1) captured)) ≡ count = length-take-le count (drop (at + 1) captured) within in
     let mods : length r.mods ≡ suc count = ap (λ (x : DataRecord). length x.mods) is ∙ ap suc (length-map (take count (drop (at + 1) captured)) mod_of ∙ size) in
     let place : (at + 1) + count ≡ at + length r.mods = omega (arith, mods) in

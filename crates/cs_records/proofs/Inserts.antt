@@ -1,5 +1,5 @@
 -- The inserts that the tests group.
-use Rattle.std.proofs.Common.{◌≡◌, ◌<◌, ℕ, ℤ, pos, List, [], ◌∷◌, length, get_or, map, ◌++◌, negsuc, Bool, true, false, ◌||◌, inl, inr, refl, ap, ◌∙◌, sym, arith, All, codes}
+use Rattle.std.proofs.Common.{◌≡◌, ◌+◌, ◌<◌, ℕ, zero, suc, ℤ, pos, List, [], ◌∷◌, length, get_or, map, ◌++◌, negsuc, Bool, true, false, ◌||◌, inl, inr, refl, ap, ◌∙◌, sym, arith, All, codes}
 use Rattle.std.specs.List.{IsDistinct}
 use Rattle.std.proofs.lemmas.Bool.{cases_lt}
 use Rattle.std.proofs.lemmas.List.{get_or-map, get_or_append_left, get_or_push, length-map, length_push}
@@ -76,6 +76,7 @@ pub all_apart : (stamp : ℕ) (items : List Captured) → AreInserts stamp items
 all_apart stamp items h = IsDistinct-from_apart same_row (map (λ (c : Captured). c.change.row) items) (λ i j d lt lt'.
     let within : j < length items = omega (arith, lt', length-map items (λ (c : Captured). c.change.row)) in
     let before : i < length items = omega arith in
+    let x : Captured = insert_at stamp (pos 0) in
     let left : get_or (map (λ (c : Captured). c.change.row) items) i d ≡ row_at (pos i) = get_or-map (λ (c : Captured). c.change.row) items i (insert_at stamp (pos 0)) d before ∙ ap (λ (c : Captured). c.change.row) (h i (insert_at stamp (pos 0)) before) in
     let right : get_or (map (λ (c : Captured). c.change.row) items) j d ≡ row_at (pos j) = get_or-map (λ (c : Captured). c.change.row) items j (insert_at stamp (pos 0)) d within ∙ ap (λ (c : Captured). c.change.row) (h j (insert_at stamp (pos 0)) within) in
     rw (left, right) (rows_apart i j lt))

@@ -83,11 +83,13 @@ found name (y ∷ ys) h = found_in name y ys (is_eq (slice_cmp nat_cmp name y.na
 -- a column of a captured change is named in what the change tells of
 named : (columns : List ColumnInfo) (k : ℕ) (d : ColumnInfo) → k < length columns → is_among (map (λ (c : ColumnInfo). c.name) columns) (get_or columns k d).name ≡ true
 named columns k d lt =
+    let names : List (List ℕ) = map (λ (c : ColumnInfo). c.name) columns in
     let at : get_or (map (λ (c : ColumnInfo). c.name) columns) k [] ≡ (get_or columns k d).name = get_or-map (λ (c : ColumnInfo). c.name) columns k d [] lt in
     list_any_at (λ n. is_eq (slice_cmp nat_cmp (get_or columns k d).name n)) (map (λ (c : ColumnInfo). c.name) columns) k [] (rw length-map lt) ((same_bytes (get_or columns k d).name (get_or (map (λ (c : ColumnInfo). c.name) columns) k [])).1 (sym at))
 
 each_among : (a b : Captured) → Agree a b → HasItsColumns a → HasItsColumns b → IsAlike a b → AllByRecursion (λ x. Among x b.columns) a.columns
 each_among a b agree of_a of_b alike = recursion_from_All (λ x. Among x b.columns) a.columns (λ k d lt.
+    let x : ColumnInfo = get_or a.columns k d in
     let key : columns_of a.change.row.key ≡ columns_of b.change.row.key = agree.key alike.table in
     let told : is_among (map (λ (c : ColumnInfo). c.name) b.columns) (get_or a.columns k d).name ≡ is_among (map (λ (c : ColumnInfo). c.name) a.columns) (get_or a.columns k d).name = of_b.each (get_or a.columns k d).name
     ∙ sym (of_a.each (get_or a.columns k d).name ∙ (λ i. is_among (key i) (get_or a.columns k d).name || (is_among (alike.new i) (get_or a.columns k d).name || is_among (alike.old i) (get_or a.columns k d).name))) in

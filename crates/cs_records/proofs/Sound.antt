@@ -71,6 +71,7 @@ among_itself names k d lt = list_any_at (λ n. is_eq (slice_cmp nat_cmp (get_or 
 
 key_right : (c : Captured) → HasItsColumns c → key_fault (key_columns c.columns) (columns_of c.change.row.key) ≡ None
 key_right c h =
+    let key : List (List ℕ) = columns_of c.change.row.key in
     let marked : Marked (columns_of c.change.row.key) c.columns = recursion_from_All (λ (x : ColumnInfo). x.is_key ≡ is_among (columns_of c.change.row.key) x.name) c.columns h.marked in
     let each : AllByRecursion (λ n. is_among (key_columns c.columns) n ≡ true) (columns_of c.change.row.key) =
     recursion_from_All (λ (n : List ℕ). is_among (key_columns c.columns) n ≡ true) (columns_of c.change.row.key) (λ k d lt.
@@ -159,6 +160,7 @@ pub sound : (n : ℕ) (items : List Captured) (records : List DataRecord) → Ar
 sound n items [] ones columns rows cut = All-nil (λ r. record_fault r ≡ None)
 sound n items (r ∷ records) ones columns rows cut =
     let k = known items cut.0 n r ones cut.1 in
+    let group : List Captured = k.next.first ∷ k.next.more in
     let columns_here : All HasItsColumns ((k.next.first ∷ k.next.more) ++ cut.0) = subst (All HasItsColumns) k.next.split columns in
     let rows_here : IsDistinct same_row (rows_of (k.next.first ∷ k.next.more) ++ rows_of cut.0) =
     subst (IsDistinct same_row) (ap rows_of k.next.split ∙ map-append (λ (c : Captured). c.change.row) (k.next.first ∷ k.next.more) cut.0) rows in
