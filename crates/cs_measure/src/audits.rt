@@ -12,10 +12,11 @@ use std::alloc::Global;
 fn captured(alloc: Global, count: u32, end: Stamp) -> Result<Items<Change>, Trouble> {
     let catalog = commits::catalog(alloc)?;
     let history = commits::history(alloc, &catalog, count)?;
-    let Some(stream) = catalog.streams().first() else {
-        return Err(Trouble::Unexpected("no stream"));
-    };
-    Ok(wanted(alloc, &history, &catalog, stream, commits::moment(0)?, end)?)
+    let start = commits::moment(0)?;
+    match catalog.streams().first() {
+        Some(stream) => Ok(wanted(alloc, &history, &catalog, stream, start, end)?),
+        None => Err(Trouble::Statement),
+    }
 }
 
 fn verdict_on(
@@ -27,11 +28,11 @@ fn verdict_on(
     if can_be_audited(alloc, wanted)? {
         Ok(audit(alloc, lines, wanted, end)?)
     } else {
-        Err(Trouble::Unexpected("two changes cannot be told apart"))
+        Err(Trouble::Changes)
     }
 }
 
-/// Says what the output of so many commits is found to be, whole and without its last line.
+/// Says that the output of so many commits is found to be complete.
 pub fn audited(alloc: Global, count: u32) -> Result<String, Trouble> {
     let end = commits::moment(count)?;
     let wanted = captured(alloc, count, end)?;
@@ -43,6 +44,6 @@ pub fn audited(alloc: Global, count: u32) -> Result<String, Trouble> {
         Verdict::Complete => Ok(format!(in alloc;
             "audit {count}: {changes} changes, {found} lines, Complete"
         )?),
-        _ => Err(Trouble::Unexpected("the output is not found to be complete")),
+        _ => Err(Trouble::Output),
     }
 }

@@ -22,20 +22,25 @@ const BESIDE: usize = 28;
 pub fn moment(behind: u32) -> Result<Stamp, Trouble> {
     match Stamp::of(FIRST + behind as u64) {
         Some(stamp) => Ok(stamp),
-        None => Err(Trouble::Unexpected("no stamp")),
+        None => Err(Trouble::Moment),
     }
 }
 
 /// The table T and the stream S.
 pub fn catalog(alloc: Global) -> Result<Catalog, Trouble> {
+    let at = moment(0)?;
     let mut catalog = Catalog::new(alloc);
-    for text in [TABLE, STREAM] {
-        let Ok(statement) = parse_ddl(alloc, text.as_bytes()) else {
-            return Err(Trouble::Unexpected("no statement"));
-        };
-        catalog.apply(moment(0)?, &statement)?;
-    }
+    apply(alloc, &mut catalog, at, TABLE)?;
+    apply(alloc, &mut catalog, at, STREAM)?;
     Ok(catalog)
+}
+
+fn apply(alloc: Global, catalog: &mut Catalog, at: Stamp, text: &str) -> Result<(), Trouble> {
+    let Ok(statement) = parse_ddl(alloc, text.as_bytes()) else {
+        return Err(Trouble::Statement);
+    };
+    catalog.apply(at, &statement)?;
+    Ok(())
 }
 
 fn cell(alloc: Global, column: &str, value: Value) -> Result<Cell, Memory> {
@@ -45,29 +50,37 @@ fn cell(alloc: Global, column: &str, value: Value) -> Result<Cell, Memory> {
     })
 }
 
-/// A transaction with one write, to the row of a number.
+fn text_cell(alloc: Global, column: &str, text: &str) -> Result<Cell, Memory> {
+    let value = Text::of(alloc, text)?;
+    cell(alloc, column, Value::Text(value))
+}
+
+/// The row of a number.
+fn row_of(alloc: Global, number: u32) -> Result<RowName, Trouble> {
+    let mut key = Items::new(alloc);
+    let cell = cell(alloc, "K", Value::Int64(number as i64))?;
+    key.push(cell)?;
+    Ok(RowName {
+        table: Text::of(alloc, "T")?,
+        key: Cells::of(key)?,
+    })
+}
+
+/// A transaction with one write.
 fn txn(
     alloc: Global,
-    tx: Text,
-    at: Stamp,
+    number: u32,
     kind: Kind,
-    row: u32,
+    row: RowName,
     set: Items<Cell>,
-) -> Result<Txn, Memory> {
-    let mut key = Items::new(alloc);
-    key.push(cell(alloc, "K", Value::Int64(row as i64))?)?;
+) -> Result<Txn, Trouble> {
+    let set = Cells::of(set)?;
     let mut writes = Items::new(alloc);
-    writes.push(Write {
-        kind,
-        row: RowName {
-            table: Text::of(alloc, "T")?,
-            key: Cells::in_order(key),
-        },
-        set: Cells::in_order(set),
-    })?;
+    writes.push(Write { kind, row, set })?;
+    let id = format!(in alloc; "t{number}")?;
     Ok(Txn {
-        stamp: at,
-        tx,
+        stamp: moment(number)?,
+        tx: Text::of(alloc, id.as_str())?,
         tag: Text::of(alloc, "")?,
         writes,
     })
@@ -75,35 +88,30 @@ fn txn(
 
 /// Rows are inserted, changed and deleted, one after the other, with keys in no order.
 fn numbered(alloc: Global, number: u32) -> Result<Txn, Trouble> {
+    let row = row_of(alloc, (number / 3).wrapping_mul(2_654_435_761))?;
+    let mut set = Items::new(alloc);
     let kind = match number % 3 {
         0 => Kind::Insert,
         1 => Kind::Update,
         _ => Kind::Delete,
     };
-    let row = (number / 3).wrapping_mul(2_654_435_761);
-    let mut set = Items::new(alloc);
-    if !matches!(kind, Kind::Delete) {
-        set.push(cell(alloc, "A", Value::Int64(number as i64))?)?;
+    if number % 3 < 2 {
+        let cell = cell(alloc, "A", Value::Int64(number as i64))?;
+        set.push(cell)?;
     }
-    if matches!(kind, Kind::Insert) {
-        set.push(cell(alloc, "B", Value::Text(Text::of(alloc, "some text")?))?)?;
+    if number % 3 < 1 {
+        let cell = text_cell(alloc, "B", "some text")?;
+        set.push(cell)?;
     }
-    let id = format!(in alloc; "t{number}")?;
-    Ok(txn(
-        alloc,
-        Text::of(alloc, id.as_str())?,
-        moment(number)?,
-        kind,
-        row,
-        set,
-    )?)
+    txn(alloc, number, kind, row, set)
 }
 
 /// So many commits.
 pub fn history(alloc: Global, catalog: &Catalog, count: u32) -> Result<History, Trouble> {
     let mut history = History::new(alloc);
     for number in 0..count {
-        history.commit(catalog, &numbered(alloc, number)?)?;
+        let txn = numbered(alloc, number)?;
+        history.commit(catalog, &txn)?;
     }
     Ok(history)
 }
@@ -122,17 +130,11 @@ fn large(alloc: Global, number: u32, length: usize) -> Result<Txn, Trouble> {
     for _ in 0..length {
         text.push('x')?;
     }
+    let row = row_of(alloc, number)?;
+    let cell = text_cell(alloc, "B", text.as_str())?;
     let mut set = Items::new(alloc);
-    set.push(cell(alloc, "B", Value::Text(Text::of(alloc, text.as_str())?))?)?;
-    let id = format!(in alloc; "t{number}")?;
-    Ok(txn(
-        alloc,
-        Text::of(alloc, id.as_str())?,
-        moment(number)?,
-        Kind::Insert,
-        number,
-        set,
-    )?)
+    set.push(cell)?;
+    txn(alloc, number, Kind::Insert, row, set)
 }
 
 /// Fills a history to its limit: 2,048 rows of the greatest size are taken, a row of one byte more
@@ -140,18 +142,20 @@ fn large(alloc: Global, number: u32, length: usize) -> Result<Txn, Trouble> {
 pub fn fill(alloc: Global) -> Result<String, Trouble> {
     let catalog = catalog(alloc)?;
     let mut history = History::new(alloc);
-    let Err(TxnFault::RowTooLarge(_)) = history.commit(
-        &catalog,
-        &large(alloc, 1_000, ROW - BESIDE + 1)?,
-    ) else {
-        return Err(Trouble::Unexpected("a row that is too large is not refused as such"));
-    };
-    for number in 1_000..3_048 {
-        history.commit(&catalog, &large(alloc, number, ROW - BESIDE)?)?;
+    let too_large = large(alloc, 1_000, ROW - BESIDE + 1)?;
+    let refused = history.commit(&catalog, &too_large);
+    if !matches!(refused, Err(TxnFault::RowTooLarge(_))) {
+        return Err(Trouble::Limit);
     }
-    let Err(TxnFault::HistoryFull) = history.commit(&catalog, &large(alloc, 3_048, 0)?) else {
-        return Err(Trouble::Unexpected("a history that is full takes a row more"));
-    };
+    for number in 1_000..3_048 {
+        let largest = large(alloc, number, ROW - BESIDE)?;
+        history.commit(&catalog, &largest)?;
+    }
+    let one_more = large(alloc, 3_048, 0)?;
+    let refused = history.commit(&catalog, &one_more);
+    if !matches!(refused, Err(TxnFault::HistoryFull)) {
+        return Err(Trouble::Limit);
+    }
     let left = history.modifications().len();
     Ok(format!(in alloc;
         "fill: {left} modifications, RowTooLarge at one byte more, HistoryFull at one row more"

@@ -41,7 +41,7 @@ pub fn changes(rt: &HostRuntime, path: &str) -> Result<String, Trouble> {
 fn content(rt: &HostRuntime, path: &str) -> Result<String, Trouble> {
     match fs::read_to_string(rt, path) {
         Ok(text) => Ok(text),
-        Err(_) => Err(Trouble::Unexpected("the file cannot be read")),
+        Err(_) => Err(Trouble::File),
     }
 }
 

@@ -3,7 +3,7 @@
 use cs_output::TextFault;
 use cs_schema::SchemaFault;
 use cs_txn::TxnFault;
-use cs_types::Memory;
+use cs_types::{CellsFault, Memory};
 use std::alloc::AllocError;
 use std::fmt;
 
@@ -12,19 +12,41 @@ use std::fmt;
 pub enum Trouble {
     /// The words name nothing that can be run.
     Words,
-    /// A call refused what it should take, or took what it should refuse.
-    Unexpected(&'static str),
+    /// A file cannot be read.
+    File,
+    /// A moment is none.
+    Moment,
+    /// A statement is refused.
+    Statement,
+    /// Cells are refused.
+    Cells,
+    /// A transaction is refused.
+    Transaction,
+    /// A transaction that is too large is not refused as such.
+    Limit,
+    /// Two changes cannot be told apart.
+    Changes,
+    /// An output is not read back, or is not found to be complete.
+    Output,
     /// Want of memory.
     Memory,
 }
 
 impl fmt::Display for Trouble {
     fn fmt<W: fmt::Write>(&self, f: &mut fmt::Formatter<W>) -> fmt::Result {
-        match self {
-            Trouble::Words => f.write_str("the words name nothing that can be run"),
-            Trouble::Unexpected(what) => f.write_str(what),
-            Trouble::Memory => f.write_str("memory was wanting"),
-        }
+        let text = match self {
+            Trouble::Words => "the words name nothing that can be run",
+            Trouble::File => "the file cannot be read",
+            Trouble::Moment => "a moment is none",
+            Trouble::Statement => "a statement is refused",
+            Trouble::Cells => "cells are refused",
+            Trouble::Transaction => "a transaction is refused",
+            Trouble::Limit => "a transaction that is too large is not refused as such",
+            Trouble::Changes => "two changes cannot be told apart",
+            Trouble::Output => "the output is not read back, or is not found to be complete",
+            Trouble::Memory => "memory was wanting",
+        };
+        f.write_str(text)
     }
 }
 
@@ -40,18 +62,30 @@ impl From<AllocError> for Trouble {
     }
 }
 
+impl From<CellsFault> for Trouble {
+    fn from(fault: CellsFault) -> Trouble {
+        match fault {
+            CellsFault::Memory => Trouble::Memory,
+            _ => Trouble::Cells,
+        }
+    }
+}
+
 impl From<TextFault> for Trouble {
     fn from(fault: TextFault) -> Trouble {
         match fault {
             TextFault::Memory => Trouble::Memory,
-            _ => Trouble::Unexpected("an output is not read back"),
+            _ => Trouble::Output,
         }
     }
 }
 
 impl From<SchemaFault> for Trouble {
-    fn from(_: SchemaFault) -> Trouble {
-        Trouble::Unexpected("a statement is refused")
+    fn from(fault: SchemaFault) -> Trouble {
+        match fault {
+            SchemaFault::Memory => Trouble::Memory,
+            _ => Trouble::Statement,
+        }
     }
 }
 
@@ -59,7 +93,7 @@ impl From<TxnFault> for Trouble {
     fn from(fault: TxnFault) -> Trouble {
         match fault {
             TxnFault::Memory => Trouble::Memory,
-            _ => Trouble::Unexpected("a transaction is refused"),
+            _ => Trouble::Transaction,
         }
     }
 }
