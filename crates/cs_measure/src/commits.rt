@@ -137,25 +137,47 @@ fn large(alloc: Global, number: u32, length: usize) -> Result<Txn, Trouble> {
     txn(alloc, number, Kind::Insert, row, set)
 }
 
+/// Whether a row of one byte more than the greatest size is refused as such.
+fn is_too_large(alloc: Global, catalog: &Catalog, history: &mut History) -> Result<bool, Trouble> {
+    let too_large = large(alloc, 1_000, ROW - BESIDE + 1)?;
+    let refused = history.commit(catalog, &too_large);
+    Ok(matches!(refused, Err(TxnFault::RowTooLarge(_))))
+}
+
+/// Whether a row more, however small, is refused since the history is full.
+fn is_full(alloc: Global, catalog: &Catalog, history: &mut History) -> Result<bool, Trouble> {
+    let one_more = large(alloc, 3_048, 0)?;
+    let refused = history.commit(catalog, &one_more);
+    Ok(matches!(refused, Err(TxnFault::HistoryFull)))
+}
+
+/// 2,048 rows of the greatest size.
+fn add_largest(alloc: Global, catalog: &Catalog, history: &mut History) -> Result<(), Trouble> {
+    for number in 1_000..3_048 {
+        let largest = large(alloc, number, ROW - BESIDE)?;
+        history.commit(catalog, &largest)?;
+    }
+    Ok(())
+}
+
+/// A history that is filled to its limit, where its limits are where they should be.
+fn filled(alloc: Global) -> Result<History, Trouble> {
+    let catalog = catalog(alloc)?;
+    let mut history = History::new(alloc);
+    if !is_too_large(alloc, &catalog, &mut history)? {
+        return Err(Trouble::Limit);
+    }
+    add_largest(alloc, &catalog, &mut history)?;
+    if !is_full(alloc, &catalog, &mut history)? {
+        return Err(Trouble::Limit);
+    }
+    Ok(history)
+}
+
 /// Fills a history to its limit: 2,048 rows of the greatest size are taken, a row of one byte more
 /// is refused, and so is one row more, however small.
 pub fn fill(alloc: Global) -> Result<String, Trouble> {
-    let catalog = catalog(alloc)?;
-    let mut history = History::new(alloc);
-    let too_large = large(alloc, 1_000, ROW - BESIDE + 1)?;
-    let refused = history.commit(&catalog, &too_large);
-    if !matches!(refused, Err(TxnFault::RowTooLarge(_))) {
-        return Err(Trouble::Limit);
-    }
-    for number in 1_000..3_048 {
-        let largest = large(alloc, number, ROW - BESIDE)?;
-        history.commit(&catalog, &largest)?;
-    }
-    let one_more = large(alloc, 3_048, 0)?;
-    let refused = history.commit(&catalog, &one_more);
-    if !matches!(refused, Err(TxnFault::HistoryFull)) {
-        return Err(Trouble::Limit);
-    }
+    let history = filled(alloc)?;
     let left = history.modifications().len();
     Ok(format!(in alloc;
         "fill: {left} modifications, RowTooLarge at one byte more, HistoryFull at one row more"
