@@ -17,8 +17,9 @@ use Rattle.cs_types.specs.declared.cells.Cell.{Cell}
 use Rattle.cs_types.specs.declared.change.RowName.{RowName}
 use Rattle.cs_types.specs.Order.{value_cmp, cell_cmp, cells_cmp}
 use Rattle.cs_types.specs.Row.{row_cmp}
-use Rattle.cs_types.proofs.SameRow.{same_row-is}
-use Rattle.cs_place.specs.Place.{text_place, int64_place, numeric_place, date_place, value_place, key_place, place_bytes, IsOfItsType, IsName, columns, table_place, AreOfOneDatabase}
+use Rattle.cs_types.specs.Exact.{same_row-is}
+use Rattle.cs_types.specs.Database.{columns, AreInRange, IsName, HaveOneLayout}
+use Rattle.cs_place.specs.Place.{text_place, int64_place, numeric_place, date_place, value_place, key_place, place_bytes, table_place}
 use Rattle.cs_place.proofs.Numbers.{then_equal, then_then, numbers_in_order}
 
 -- what decides after two lists that begin with a and b, where a and b decide by o
@@ -78,7 +79,7 @@ dates_in_order m n in_m in_n xs ys = numbers_in_order 4 (2 ^ 31) refl m n in_m i
 number_decides : (o p q : Ordering) → o ≡ ordering_then p q → o ≡ ordering_then (ordering_then p Equal) q
 number_decides o p q e = e ∙ ap (λ x. ordering_then x q) (sym (then_equal p))
 
-values_in_order : (a b : Value) → IsOfItsType a → IsOfItsType b → Decide (value_place a) (value_place b) (value_cmp a b)
+values_in_order : (a b : Value) → IsInRange a → IsInRange b → Decide (value_place a) (value_place b) (value_cmp a b)
 values_in_order Null Null in_a in_b xs ys = refl
 values_in_order (Boolean false) (Boolean false) in_a in_b xs ys = refl
 values_in_order (Boolean false) (Boolean true) in_a in_b xs ys = refl
@@ -92,12 +93,12 @@ values_in_order (Date m) (Date n) in_a in_b xs ys = number_decides _ (int_cmp m 
 values_in_order (Timestamp m) (Timestamp n) in_a in_b xs ys = number_decides _ (int_cmp m n) _ (int64s_in_order m n (timestamp_bits m in_a) (timestamp_bits n in_b) xs ys)
 values_in_order a b in_a in_b xs ys = refl
 
-keys_in_order : (a b : List Cell) → columns a ≡ columns b → All (λ c. IsOfItsType c.value) a → All (λ c. IsOfItsType c.value) b → slice_cmp nat_cmp (key_place a) (key_place b) ≡ cells_cmp a b
+keys_in_order : (a b : List Cell) → columns a ≡ columns b → AreInRange a → AreInRange b → slice_cmp nat_cmp (key_place a) (key_place b) ≡ cells_cmp a b
 keys_in_order [] [] e in_a in_b = refl
 keys_in_order [] (c ∷ b) e in_a in_b = cc
 keys_in_order (c ∷ a) [] e in_a in_b = cc
 keys_in_order (c ∷ a) (d ∷ b) e in_a in_b =
-    let typed = λ (x : Cell). IsOfItsType x.value in
+    let typed = λ (x : Cell). IsInRange x.value in
     let column : c.column ≡ d.column = cc in
     let more : columns a ≡ columns b = cc in
     let tie : slice_cmp nat_cmp c.column d.column ≡ Equal = subst (λ x. slice_cmp nat_cmp c.column x ≡ Equal) column (tied_itself nat_list_cmp_total c.column) in
@@ -121,7 +122,7 @@ tables_in_order (a ∷ s) (b ∷ t) in_s in_t xs ys =
     ap (ordering_then (nat_cmp a b)) (tables_in_order s t (All-tail above a s in_s) (All-tail above b t in_t) xs ys)
     ∙ sym (then_then (nat_cmp a b) (slice_cmp nat_cmp s t) (slice_cmp nat_cmp xs ys))
 
-pub rows_in_order : (a b : RowName) → AreOfOneDatabase a b → slice_cmp nat_cmp (place_bytes a) (place_bytes b) ≡ row_cmp a b
+pub rows_in_order : (a b : RowName) → HaveOneLayout a b → slice_cmp nat_cmp (place_bytes a) (place_bytes b) ≡ row_cmp a b
 rows_in_order a b h = tables_in_order a.table b.table h.names.0 h.names.1 (key_place a.key) (key_place b.key) ∙ decided (slice_cmp nat_cmp a.table b.table) refl
   where
     decided : (o : Ordering) → slice_cmp nat_cmp a.table b.table ≡ o → ordering_then o (slice_cmp nat_cmp (key_place a.key) (key_place b.key)) ≡ ordering_then o (cells_cmp a.key b.key)
@@ -129,7 +130,7 @@ rows_in_order a b h = tables_in_order a.table b.table h.names.0 h.names.1 (key_p
     decided Equal e = keys_in_order a.key b.key (h.columns_of_one_table (exact_bytes a.table b.table e)) h.values.0 h.values.1
     decided Greater e = refl
 
-pub rows_apart : (a b : RowName) → AreOfOneDatabase a b → (place_bytes a ≡ place_bytes b) ↔ (a ≡ b)
+pub rows_apart : (a b : RowName) → HaveOneLayout a b → (place_bytes a ≡ place_bytes b) ↔ (a ≡ b)
 rows_apart a b h =
     let order : (place_bytes a ≡ place_bytes b) → row_cmp a b ≡ Equal =
     λ e. sym (rows_in_order a b h) ∙ subst (λ x. slice_cmp nat_cmp (place_bytes a) x ≡ Equal) e (tied_itself nat_list_cmp_total (place_bytes a)) in

@@ -29,3 +29,5 @@ pub record IsSoundLayout (created : ℕ) (parts : List Part) : Type 0 where
   pub held : (place : Place) (moment : ℕ) → created ≤ moment → HasOnePart parts place moment
   -- a part that begins later has as parents exactly the parts that it follows
   pub parents : (part : Part) → Contains parts part → created < part.from → (token : List ℕ) → Contains part.parents token ↔ ((parent : Part) × Contains parts parent × (parent.token ≡ token) × IsFollowedBy parent part)
+  -- no part names a parent twice
+  pub parents_once : (part : Part) → Contains parts part → AllPairs (λ a b. a ≢ b) part.parents

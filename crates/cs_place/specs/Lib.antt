@@ -1,3 +1,4 @@
 pub mod Layout
 pub mod Part
 pub mod Place
+pub mod Held

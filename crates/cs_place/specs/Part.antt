@@ -1,5 +1,5 @@
 -- Parts, which Spanner's documentation calls change stream partitions: which places and which moments each has.
-use Rattle.std.specs.Prelude.{◌≡◌, ℕ, suc, ◌<◌, ◌≤◌, min, Bool, true, false, ◌&&◌, nat_le, nat_lt, Option, Some, None, ⊤}
+use Rattle.std.specs.Prelude.{◌≡◌, ℕ, ◌<◌, ◌≤◌, Bool, true, false, not, ◌&&◌, nat_le, nat_lt, Option, Some, None, ⊤}
 use Rattle.std.specs.Ordering.{nat_cmp, is_lt}
 use Rattle.std.specs.Cmp.Lexicographic.{slice_cmp}
 use Rattle.cs_place.specs.declared.place.Place.{Place}
@@ -47,7 +47,15 @@ is_before moment (Some until) = nat_lt moment until
 abbrev pub is_live : Part → ℕ → Bool
 is_live part moment = nat_le part.from moment && is_before moment part.until
 
--- the first moment that a part has no more, or that is past the last one wanted
-abbrev pub limit : ℕ → Option ℕ → ℕ
-limit last None = suc last
-limit last (Some until) = min (suc last) until
+-- the test of a place below the end of a range
+abbrev pub is_below_high : Place → Option Place → Bool
+is_below_high place None = true
+is_below_high place (Some high) = is_below place high
+
+-- the test of a place in a range
+abbrev pub is_inside : Range → Place → Bool
+is_inside range place = not (is_below place range.low) && is_below_high place range.high
+
+-- the test of a part that has a place at a moment
+abbrev pub is_held : Part → Place → ℕ → Bool
+is_held part place moment = is_inside part.range place && is_live part moment

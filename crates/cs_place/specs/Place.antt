@@ -1,9 +1,8 @@
 -- Places, the bytes by which a row stands in the order of all rows, as Spanner's splits have key ranges; the bytes themselves are this project's own.
-use Rattle.std.specs.Prelude.{◌≡◌, ◌<◌, ℕ, zero, suc, ◌+◌, ◌-◌, ◌^◌, ℤ, pos, negsuc, Bool, true, false, List, [], ◌∷◌, ◌++◌, map, flat_map, All, FitsSigned}
+use Rattle.std.specs.Prelude.{ℕ, zero, suc, ◌+◌, ◌-◌, ◌^◌, ℤ, pos, negsuc, Bool, true, false, List, [], ◌∷◌, ◌++◌, flat_map}
 use Rattle.std.specs.Int.{to_be_bytes, w32, w64, w128}
 use Rattle.cs_types.specs.declared.value.Value.{Value}
 use Rattle.cs_types.specs.declared.value.Value.TheVariants.{Null, Bool as Boolean, Int64, Numeric, Text, Bytes, Date, Timestamp}
-use Rattle.cs_types.specs.Value.{IsInRange}
 use Rattle.cs_types.specs.declared.cells.Cell.{Cell}
 use Rattle.cs_types.specs.declared.change.RowName.{RowName}
 
@@ -58,31 +57,3 @@ table_place table = table ++ 0 ∷ []
 -- the place of a row: its table's name, 00, and its key
 abbrev pub place_bytes : RowName → List ℕ
 place_bytes row = row.table ++ 0 ∷ key_place row.key
-
--- each value is one that its type has, an INT64 a number of 64 bits
-abbrev pub IsOfItsType : Value → Type 0
-IsOfItsType (Int64 n) = FitsSigned w64 n
-IsOfItsType Null = IsInRange Null
-IsOfItsType (Boolean b) = IsInRange (Boolean b)
-IsOfItsType (Numeric n) = IsInRange (Numeric n)
-IsOfItsType (Text text) = IsInRange (Text text)
-IsOfItsType (Bytes bytes) = IsInRange (Bytes bytes)
-IsOfItsType (Date days) = IsInRange (Date days)
-IsOfItsType (Timestamp us) = IsInRange (Timestamp us)
-
--- the columns of a key, in the order of its cells
-abbrev pub columns : List Cell → List (List ℕ)
-columns key = map (λ c. c.column) key
-
--- a table's name has no byte 00
-abbrev pub IsName : List ℕ → Type 0
-IsName table = All (λ b. 0 < b) table
-
--- two rows as one database has them
-pub record AreOfOneDatabase (a b : RowName) : Type 0 where
-  -- their tables have names
-  pub names : IsName a.table × IsName b.table
-  -- rows of one table have the same key columns
-  pub columns_of_one_table : a.table ≡ b.table → columns a.key ≡ columns b.key
-  -- their values are such as a program has
-  pub values : All (λ c. IsOfItsType c.value) a.key × All (λ c. IsOfItsType c.value) b.key

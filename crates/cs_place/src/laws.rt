@@ -2,19 +2,23 @@ ghost use Rattle.std.specs.Prelude.{◌≡◌, ◌↔◌, ℕ, List, Contains};
 ghost use Rattle.std.specs.Ordering.{nat_cmp, is_lt};
 ghost use Rattle.std.specs.Cmp.Lexicographic.{slice_cmp};
 ghost use Rattle.cs_types.specs.declared.change.RowName.{RowName};
+ghost use Rattle.cs_types.specs.Database.{IsName, HaveOneLayout, AreOfOneDatabase};
 ghost use Rattle.cs_types.specs.Row.{row_cmp};
 ghost use Rattle.cs_place.specs.declared.part.Part.{Part};
 ghost use Rattle.cs_place.specs.Layout.{IsSoundLayout};
-ghost use Rattle.cs_place.specs.Place.{AreOfOneDatabase, IsName, place_bytes, table_place};
+ghost use Rattle.cs_place.specs.Place.{place_bytes, table_place};
 
 /// A law: byte order of places is the order of their rows, by table, then by the key, cell by cell.
+/// One layout is enough; a column may have values of two types.
 pub fn places_in_order()
-    ensures { (a b : RowName) → AreOfOneDatabase a b → slice_cmp nat_cmp (place_bytes a) (place_bytes b) ≡ row_cmp a b }
+    ensures layout { (a b : RowName) → HaveOneLayout a b → slice_cmp nat_cmp (place_bytes a) (place_bytes b) ≡ row_cmp a b }
+    ensures database { (a b : RowName) → AreOfOneDatabase a b → slice_cmp nat_cmp (place_bytes a) (place_bytes b) ≡ row_cmp a b }
 {}
 
-/// A law: places are equal exactly for equal rows.
+/// A law: places are equal exactly for equal rows. One layout is enough.
 pub fn places_are_apart()
-    ensures { (a b : RowName) → AreOfOneDatabase a b → (place_bytes a ≡ place_bytes b) ↔ (a ≡ b) }
+    ensures layout { (a b : RowName) → HaveOneLayout a b → (place_bytes a ≡ place_bytes b) ↔ (a ≡ b) }
+    ensures database { (a b : RowName) → AreOfOneDatabase a b → (place_bytes a ≡ place_bytes b) ↔ (a ≡ b) }
 {}
 
 /// A law: a row is below the place of a table exactly where the table's name is above its own, so

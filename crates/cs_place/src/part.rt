@@ -1,5 +1,5 @@
 ghost use Rattle.std.specs.Prelude.{◌≡◌, ◌↔◌, IsTrue};
-ghost use Rattle.cs_place.specs.Part.{IsInRange, IsBelowHigh, IsBefore, IsLive, Holds, is_before, is_live};
+ghost use Rattle.cs_place.specs.Part.{IsInRange, IsBelowHigh, IsBefore, IsLive, Holds, is_before, is_live, is_below_high, is_inside, is_held};
 
 use crate::Place;
 use cs_types::{Duplicate, Items, Memory, Stamp, Token};
@@ -14,11 +14,20 @@ pub struct Range {
 impl Range {
     /// Whether the place is in the range. It takes no memory.
     pub fn holds(&self, place: &Place) -> bool
-        ensures { IsTrue result ↔ IsInRange self.now place.now }
+        ensures test { result ≡ is_inside self.now place.now }
+        ensures inside { IsTrue result ↔ IsInRange self.now place.now }
     {
         if *place < self.low {
             return false;
         }
+        self.is_below_high(place)
+    }
+
+    /// Whether the place is below the end of the range, where it has one. It takes no memory.
+    pub fn is_below_high(&self, place: &Place) -> bool
+        ensures test { result ≡ is_below_high place.now self.now.high }
+        ensures below { IsTrue result ↔ IsBelowHigh place.now self.now.high }
+    {
         match &self.high {
             None => true,
             Some(high) => *place < *high,
@@ -70,7 +79,8 @@ impl Part {
 
     /// Whether the part has this place at this moment. It takes no memory.
     pub fn holds(&self, place: &Place, moment: Stamp) -> bool
-        ensures { IsTrue result ↔ Holds self.now place.now moment }
+        ensures test { result ≡ is_held self.now place.now moment }
+        ensures held { IsTrue result ↔ Holds self.now place.now moment }
     {
         self.range.holds(place) && self.is_live(moment)
     }

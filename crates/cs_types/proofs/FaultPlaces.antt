@@ -1,8 +1,9 @@
 -- What the walks find is the place at which a text leaves the shape of a moment.
 use Rattle.std.proofs.Common.{◌≡◌, ℕ, zero, suc, ◌+◌, ◌≤◌, List, [], ◌∷◌, ◌++◌, length, drop, codes, replicate, Bool, true, false, Option, Some, None, MatchOption, eqb, refl, sym, subst, ◌∙◌, arith}
 use Rattle.std.proofs.lemmas.Bool.Decides.{nat_tests}
-use Rattle.cs_types.specs.Shape.{allows, Fits, IsFaultPlace, unfit}
-use Rattle.cs_types.specs.Moment.{fraction_pattern, IsMomentShape, ended, zulu, closing, digits_fault, fraction_fault}
+use Rattle.cs_types.specs.Shape.{allows, Fits, IsFaultPlace}
+use Rattle.cs_types.specs.Moment.{fraction_pattern, IsMomentShape}
+use Rattle.cs_types.specs.ShapeWalk.{unfit, ended, zulu, closing, digits_fault, fraction_fault}
 use Rattle.cs_types.proofs.Walk.{closing_one, closing_z, closing_zero}
 use Rattle.cs_types.proofs.Patterns.{by_test, unfit_more, unfit_here, unfit_short, unfit_done, some_is_not_none}
 

@@ -1,5 +1,5 @@
 -- The text that is written for a NUMERIC reads as it.
-use Rattle.std.proofs.Common.{◌≡◌, ◌≢◌, ◌<◌, ◌≤◌, ◌^◌, ℕ, zero, suc, ◌+◌, ◌-◌, ◌*◌, ◌/◌, ◌%◌, List, [], ◌∷◌, ◌++◌, length, get_or, drop, Bool, true, false, ◌&&◌, nat_lt, nat_le, ◌==◌, ℤ, pos, negsuc, neg_ℤ, ◌-ℤ◌, ◌<ℤ◌, Result, Ok, Err, Some, None, decimal, append_assoc, append-nil, length-append, refl, ap, sym, subst, ◌∙◌, arith, rules}
+use Rattle.std.proofs.Common.{◌≡◌, ◌≢◌, ◌<◌, ◌≤◌, ◌^◌, ℕ, zero, suc, ◌+◌, ◌-◌, ◌*◌, ◌/◌, ◌%◌, List, [], ◌∷◌, ◌++◌, length, get_or, true, false, ℤ, pos, negsuc, ◌-ℤ◌, ◌<ℤ◌, Ok, decimal, append-nil, length-append, refl, ap, sym, ◌∙◌, arith, rules}
 use Rattle.std.specs.Char.{digit_value}
 use Rattle.std.specs.Str.Parse.{digits_value, digits_value_after}
 use Rattle.std.proofs.Math.Nat.{pow-suc}
@@ -7,15 +7,14 @@ use Rattle.std.proofs.lemmas.Nat.{div-add-mod', div_below}
 use Rattle.std.proofs.lemmas.Int.{ints}
 use Rattle.std.proofs.lemmas.List.{drop_all}
 use Rattle.std.proofs.lemmas.Fmt.{decimal_is_IsNumeral_wide, length-decimal-le_wide}
-use Rattle.cs_types.specs.Digits.{all_digits, all_zeros, is_digits, first_digits}
-use Rattle.cs_types.specs.Numeric.{fraction_digits, fraction_text, magnitude_text, numeric_text, below_end, billionths, whole_reading, parts_reading, magnitude_reading, signed, numeric_reading}
-use Rattle.cs_types.specs.declared.value_fault.ValueFault.{ValueFault}
+use Rattle.cs_types.specs.Digits.{all_digits, is_digits, first_digits}
+use Rattle.cs_types.specs.Numeric.{fraction_digits, fraction_text, magnitude_text, numeric_text, below_end, billionths, whole_reading, magnitude_reading, signed, numeric_reading}
 use Rattle.cs_types.proofs.Integers.{all_of_digits}
-use Rattle.cs_types.proofs.Capped.{digit_is, head_digit}
+use Rattle.cs_types.proofs.Capped.{head_digit}
 use Rattle.cs_types.proofs.NumericReading.{after_append, magnitude_pointed, magnitude_plain, pointed_good, numeric_minus, numeric_plain}
-use Rattle.cs_types.proofs.NumericWriting.{ten_pow_pos, digit_below, rest_below, fraction_step, nothing_left, not_zero}
+use Rattle.cs_types.proofs.NumericWriting.{digit_below, rest_below, fraction_step, nothing_left, not_zero}
 
-zeros_value : (k n : ℕ) → digits_value_after 10 n (first_digits k []) ≡ n * 10 ^ k
+pub zeros_value : (k n : ℕ) → digits_value_after 10 n (first_digits k []) ≡ n * 10 ^ k
 unfolding first_digits
 zeros_value zero n = omega arith
 zeros_value (suc k) n = zeros_value k (n * 10 + 0) ∙ (let e : 10 ^ suc k ≡ 10 ^ k * 10 = pow-suc 10 k in rw e (omega arith))

@@ -1,6 +1,7 @@
 -- Texts that fit a pattern, and what the walk along a pattern finds.
 use Rattle.std.proofs.Common.{◌≡◌, ℕ, ◌+◌, ◌<◌, ◌≤◌, List, [], ◌∷◌, length, Bool, true, false, Some, None, refl, sym, ◌∙◌, arith}
-use Rattle.cs_types.specs.Shape.{allows, Fits, unfit}
+use Rattle.cs_types.specs.Shape.{allows, Fits}
+use Rattle.cs_types.specs.ShapeWalk.{unfit}
 
 -- a digit is one that `d` allows
 pub digit_fits : (n : ℕ) → n < 10 → allows 100 (48 + n) ≡ true

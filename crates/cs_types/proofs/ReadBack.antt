@@ -15,12 +15,15 @@ use Rattle.cs_types.proofs.MomentTexts.{moment_spelled}
 use Rattle.cs_types.proofs.Integers.{integer_written}
 use Rattle.cs_types.proofs.NumericBack.{numeric_written}
 
+pub reads_back : (ty : ColumnType) (v : Value) → IsOfType ty v → IsInRange v → Spells ty (value_data v) v
+reads_back ty Null of range = refl
+reads_back ty (Boolean b) of range = rw of refl
+reads_back ty (Int64 n) of range = rw of (ap (held Int64) (integer_written n range))
+reads_back ty (Numeric n) of range = rw of (ap (held Numeric) (numeric_written n range))
+reads_back ty (Text t) of range = rw of refl
+reads_back ty (Bytes b) of range = rw of (ap of_decoded (decode_of-encode_of standard b (search rules) range))
+reads_back ty (Date d) of range = rw of (ap (held Date) (date_read (date_text d) d (date_spelled d range)))
+reads_back ty (Timestamp t) of range = rw of (ap (held Timestamp) (moment_read (moment_text t) t (moment_spelled t range)))
+
 pub spells_written : (ty : ColumnType) (v : Value) → IsOfType ty v → IsInRange v → IsWithin v → Spells ty (value_data v) v
-spells_written ty Null of range within = refl
-spells_written ty (Boolean b) of range within = rw of refl
-spells_written ty (Int64 n) of range within = rw of (ap (held Int64) (integer_written n within))
-spells_written ty (Numeric n) of range within = rw of (ap (held Numeric) (numeric_written n range))
-spells_written ty (Text t) of range within = rw of refl
-spells_written ty (Bytes b) of range within = rw of (ap of_decoded (decode_of-encode_of standard b (search rules) within))
-spells_written ty (Date d) of range within = rw of (ap (held Date) (date_read (date_text d) d (date_spelled d range)))
-spells_written ty (Timestamp t) of range within = rw of (ap (held Timestamp) (moment_read (moment_text t) t (moment_spelled t range)))
+spells_written ty v of range within = reads_back ty v of range

@@ -1,71 +1,9 @@
 -- The order of rows tells all rows apart.
-use Rattle.std.proofs.Common.{◌≡◌, ◌↔◌, ℕ, ℤ, pos, List, [], ◌∷◌, true, false, refl, sym, ◌∙◌, subst, cond, ◌==◌}
-use Rattle.std.specs.declared.cmp.Ordering.{Ordering}
-use Rattle.std.specs.declared.cmp.Ordering.TheVariants.{Less, Equal, Greater}
-use Rattle.std.specs.Ordering.{nat_cmp, int_cmp, ordering_then, is_eq}
-use Rattle.std.specs.Cmp.{IsTotalOrder, Equal-is, eq_by_cmp_equiv, on_total, then_total}
-use Rattle.std.specs.Cmp.Lexicographic.{slice_cmp, nat_list_cmp_total}
-use Rattle.std.proofs.lemmas.Map.Lookups.{CmpEqualImpliesEq, exact_unsigned, exact_signed, exact_bytes}
-use Rattle.cs_types.specs.declared.value.Value.{Value}
-use Rattle.cs_types.specs.declared.value.Value.TheVariants.{Null, Bool as a_bool, Int64, Numeric, Text, Bytes, Date, Timestamp}
+use Rattle.std.proofs.Common.{◌≡◌, ◌↔◌, true}
 use Rattle.cs_types.specs.declared.change.RowName.{RowName}
-use Rattle.cs_types.specs.Order.{value_rank, value_number, value_bytes, value_cmp, cell_cmp, cells_cmp, cells_total}
-use Rattle.cs_types.specs.Row.{row_cmp, same_row}
-
-both_equal : (o p : Ordering) → ordering_then o p ≡ Equal → (o ≡ Equal) × (p ≡ Equal)
-both_equal Less p e = cc
-both_equal Equal p e = (refl, e)
-both_equal Greater p e = cc
-
--- the value with this rank, this number and these bytes
-abbrev value_of : ℕ → ℤ → List ℕ → Value
-value_of r n bs =
-    cond (r == 0) Null (cond (r == 1) (a_bool (is_eq (int_cmp n (pos 1)))) (cond (r == 2) (Int64 n) (cond (r == 3) (Numeric n)
-    (cond (r == 4) (Text bs) (cond (r == 5) (Bytes bs) (cond (r == 6) (Date n) (Timestamp n)))))))
-
-value_of-parts : (v : Value) → value_of (value_rank v) (value_number v) (value_bytes v) ≡ v
-value_of-parts Null = refl
-value_of-parts (a_bool false) = refl
-value_of-parts (a_bool true) = refl
-value_of-parts (Int64 n) = refl
-value_of-parts (Numeric n) = refl
-value_of-parts (Text t) = refl
-value_of-parts (Bytes b) = refl
-value_of-parts (Date d) = refl
-value_of-parts (Timestamp t) = refl
-
-exact_values : CmpEqualImpliesEq value_cmp
-exact_values a b e =
-    let (ranks, rest) = both_equal (nat_cmp (value_rank a) (value_rank b)) _ e in
-    let (numbers, bytes) = both_equal (int_cmp (value_number a) (value_number b)) _ rest in
-    let same : value_of (value_rank a) (value_number a) (value_bytes a) ≡ value_of (value_rank b) (value_number b) (value_bytes b) =
-    rw (exact_unsigned (value_rank a) (value_rank b) ranks, exact_signed (value_number a) (value_number b) numbers, exact_bytes (value_bytes a) (value_bytes b) bytes) refl in
-    sym (value_of-parts a) ∙ same ∙ value_of-parts b
-
-exact_cell : CmpEqualImpliesEq cell_cmp
-exact_cell a b e =
-    let (columns, values) = both_equal (slice_cmp nat_cmp a.column b.column) _ e in
-    λ i. record { column = exact_bytes a.column b.column columns i; value = exact_values a.value b.value values i }
-
-exact_cells : CmpEqualImpliesEq cells_cmp
-exact_cells [] [] e = refl
-exact_cells [] (b ∷ more_b) e = cc
-exact_cells (a ∷ more_a) [] e = cc
-exact_cells (a ∷ more_a) (b ∷ more_b) e =
-    let (first, more) = both_equal (cell_cmp a b) _ e in
-    λ i. exact_cell a b first i ∷ exact_cells more_a more_b more i
-
-exact_row : CmpEqualImpliesEq row_cmp
-exact_row a b e =
-    let (tables, keys) = both_equal (slice_cmp nat_cmp a.table b.table) _ e in
-    λ i. record { table = exact_bytes a.table b.table tables i; key = exact_cells a.key b.key keys i }
-
-rows_total : IsTotalOrder row_cmp
-rows_total = then_total (on_total (λ (r : RowName). r.table) nat_list_cmp_total) (on_total (λ (r : RowName). r.key) cells_total)
+use Rattle.cs_types.specs.Exact as exact
+use Rattle.cs_types.specs.Row.{same_row}
 
 -- the test of one row is equality
 pub same_row-is : (a b : RowName) → (same_row a b ≡ true) ↔ (a ≡ b)
-same_row-is a b = (
-  (λ e. exact_row a b ((Equal-is (row_cmp a b)).0 e)),
-  λ e. subst (λ x. same_row a x ≡ true) e ((eq_by_cmp_equiv rows_total).refl a),
-)
+same_row-is = exact.same_row-is

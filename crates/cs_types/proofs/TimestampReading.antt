@@ -1,19 +1,18 @@
 -- The test of a moment's text is the relation of text and moment.
-use Rattle.std.proofs.Common.{◌≡◌, ◌<◌, ◌≤◌, ℕ, zero, suc, ◌+◌, ◌-◌, ◌*◌, ◌/◌, List, [], ◌∷◌, ◌++◌, length, take, drop, codes, Bool, true, false, ◌&&◌, ◌||◌, nat_le, nat_lt, ℤ, pos, negsuc, ◌-ℤ◌, ◌*ℤ◌, ◌≤ℤ◌, Result, Ok, Err, refl, ap, sym, subst, ◌∙◌, arith, rules}
+use Rattle.std.proofs.Common.{◌≡◌, ◌<◌, ◌≤◌, ℕ, zero, suc, ◌+◌, ◌*◌, ◌/◌, List, ◌++◌, length, drop, codes, Bool, true, false, ◌&&◌, ◌||◌, nat_lt, ℤ, pos, negsuc, ◌-ℤ◌, ◌*ℤ◌, ◌≤ℤ◌, Ok, Err, refl, ap, sym, subst, ◌∙◌, arith, rules}
 use Rattle.std.specs.Int.{int_div_euclid}
 use Rattle.std.specs.Int.Signed.{le_z}
 use Rattle.std.specs.Ordering.{int_eq}
 use Rattle.std.proofs.lemmas.Int.{ints}
 use Rattle.std.proofs.lemmas.List.{take-append-drop}
 use Rattle.std.proofs.lemmas.Bool.Decides.{Decides-int_eq}
-use Rattle.cs_types.specs.declared.value_fault.ValueFault.{ValueFault}
 use Rattle.cs_types.specs.declared.value_fault.ValueFault.TheVariants.{Range, BadText}
-use Rattle.cs_types.specs.Shape.{Fits, Begins, IsFaultPlace}
-use Rattle.cs_types.specs.Civil.{HasCivilDate, year_field, month_field, day_field}
+use Rattle.cs_types.specs.Shape.{Fits, IsFaultPlace}
+use Rattle.cs_types.specs.Civil.{year_field, month_field, day_field}
 use Rattle.cs_types.specs.Dates.{is_fit, has_civil_date}
 use Rattle.cs_types.specs.Moment.{fraction_pattern, IsMomentShape, HasCivilMoment, SpellsMoment, IsBetweenMoments, hour_field, minute_field, second_field, moment_field}
 use Rattle.cs_types.specs.Timestamps.{is_moment_shape, has_civil_moment, microseconds, in_microseconds, moment_reading}
-use Rattle.cs_types.proofs.DateReading.{both_true, both_of, not_true, fit_is, fit_of, civil_is, civil_of}
+use Rattle.cs_types.proofs.DateReading.{passed, both_true, both_of, not_true, fit_is, fit_of, civil_is, civil_of}
 
 decide : {P : Type 0} (t : Bool) → (t ≡ true → P) → (t ≡ false → P) → P
 decide true so otherwise = so refl
@@ -143,3 +142,22 @@ moment_too_fine text shape h =
     let one = both_of (has_civil_moment text) (is_whole (moment_field text) && is_in (moment_field text)) all in
     let two = both_of (is_whole (moment_field text)) (is_in (moment_field text)) one.1 in
     h (microseconds (moment_field text), sym ((Decides-int_eq (microseconds (moment_field text) *ℤ pos 1000) (moment_field text)).0 two.0)))))
+
+pub moment_told : (text : List ℕ) (us : ℤ) → moment_reading text ≡ Ok us → SpellsMoment text us
+unfolding moment_reading
+moment_told text us h =
+    let m = moment_field text in
+    let tests = passed (is_moment_shape 9 text) (has_civil_moment text && (is_whole m && is_in m)) (microseconds m) us h in
+    let one = both_of (has_civil_moment text) (is_whole m && is_in m) tests.1 in
+    let two = both_of (is_whole m) (is_in m) one.1 in
+    let three = both_of (le_z (pos 0 -ℤ pos 62135596800000000) (microseconds m)) (le_z (microseconds m) (pos 253402300799999999)) two.1 in
+    let whole : microseconds m *ℤ pos 1000 ≡ m = (Decides-int_eq (microseconds m *ℤ pos 1000) m).0 two.0 in
+    record {
+      shape = shape_of 9 text tests.0;
+      civil = civil_moment_of text one.0;
+      number = sym whole ∙ ap (λ (z : ℤ). z *ℤ pos 1000) tests.2;
+      range = (
+        subst (λ (z : ℤ). (pos 0 -ℤ pos 62135596800000000) ≤ℤ z) tests.2 (at_most_of _ _ three.0),
+        subst (λ (z : ℤ). z ≤ℤ pos 253402300799999999) tests.2 (at_most_of _ _ three.1),
+      );
+    }

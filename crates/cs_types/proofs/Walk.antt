@@ -3,7 +3,7 @@ use Rattle.std.proofs.Common.{◌≡◌, ℕ, zero, suc, ◌+◌, ◌<◌, ◌�
 use Rattle.std.proofs.Math.ListN.{drop_of_length-le}
 use Rattle.std.proofs.lemmas.Bool.Decides.{nat_tests}
 use Rattle.cs_types.specs.Shape.{allows}
-use Rattle.cs_types.specs.Moment.{ended, zulu, closing, digits_fault, fraction_fault}
+use Rattle.cs_types.specs.ShapeWalk.{ended, zulu, closing, digits_fault, fraction_fault}
 
 pub at_place : (at : ℕ) (text : List ℕ) → at < length text → drop at text ≡ get_or text at 0 ∷ drop (at + 1) text
 at_place at text h = rw add-one (drop-cons text at 0 h)

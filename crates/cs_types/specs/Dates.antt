@@ -1,5 +1,6 @@
 -- What a text stands for as a DATE, a day number since 1970-01-01 (GoogleSQL data types): the relation of text and date, as a test.
-use Rattle.std.specs.Prelude.{ℕ, List, [], ◌∷◌, codes, Bool, true, false, ◌&&◌, nat_le, ℤ, pos, if◌then◌else◌, Result, Ok, Err}
+use Rattle.std.specs.Prelude.{ℕ, List, [], ◌∷◌, codes, Bool, true, false, ◌&&◌, ℤ, pos, if◌then◌else◌, Result, Ok, Err}
+use Rattle.std.specs.Int.{is_in_range}
 use Rattle.jiff_core.specs.Calendar.{days_in_month}
 use Rattle.cs_types.specs.declared.value_fault.ValueFault.{ValueFault}
 use Rattle.cs_types.specs.declared.value_fault.ValueFault.TheVariants.{Range, BadText}
@@ -13,12 +14,9 @@ is_fit [] (b ∷ bs) = false
 is_fit (m ∷ ms) [] = false
 is_fit (m ∷ ms) (b ∷ bs) = allows m b && is_fit ms bs
 
-abbrev pub is_between : ℕ → ℕ → ℕ → Bool
-is_between low high n = nat_le low n && nat_le n high
-
 -- whether the calendar has this day, in the years 1 to 9999
 unfoldable pub is_civil : ℕ → ℕ → ℕ → Bool
-is_civil year month day = is_between 1 9999 year && (is_between 1 12 month && is_between 1 (days_in_month (pos year) month) day)
+is_civil year month day = is_in_range 1 9999 year && (is_in_range 1 12 month && is_in_range 1 (days_in_month (pos year) month) day)
 
 -- whether the text begins with a date of the calendar
 abbrev pub has_civil_date : List ℕ → Bool

@@ -1,5 +1,6 @@
 -- The texts of an INT64, as change records have it (TypeCode: INT64 as a decimal text).
-use Rattle.std.specs.Prelude.{ℕ, ◌^◌, List, [], ◌∷◌, Bool, false, ◌&&◌, nat_lt, nat_le, ◌==◌, length, drop, slice_index, cond, ℤ, pos, negsuc, if◌then◌else◌, Result, Ok, Err}
+use Rattle.std.specs.Prelude.{◌≡◌, true, FitsSigned, ℕ, ◌^◌, List, [], ◌∷◌, Bool, false, ◌&&◌, nat_lt, nat_le, ◌==◌, length, ℤ, pos, negsuc, if◌then◌else◌, Result, Ok, Err}
+use Rattle.std.specs.Int.{w64}
 use Rattle.std.specs.Str.Parse.{signed_digits_value}
 use Rattle.cs_types.specs.declared.value_fault.ValueFault.{ValueFault}
 use Rattle.cs_types.specs.declared.value_fault.ValueFault.TheVariants.{Range, BadText}
@@ -22,3 +23,9 @@ is_integer_text (c ∷ cs) = if c == 45 then is_numeral cs else is_numeral (c �
 -- the number of a text
 unfoldable pub integer_reading : List ℕ → Result ℤ ValueFault
 integer_reading t = if is_integer_text t then in_int64 (signed_digits_value 10 t) else Err BadText
+
+-- the text is that number of 64 bits, with a minus or none and 1 to 64 digits
+pub record SpellsInteger (text : List ℕ) (n : ℤ) : Type 0 where
+  pub shape : is_integer_text text ≡ true
+  pub number : signed_digits_value 10 text ≡ n
+  pub range : FitsSigned w64 n

@@ -1,9 +1,9 @@
 -- Moments of the years 1 to 9999 in UTC, counted since 1970-01-01T00:00:00Z, and their texts, which are RFC 3339's with `T` and `Z` (GoogleSQL's TIMESTAMP).
-use Rattle.std.specs.Prelude.{◌≡◌, ℕ, zero, suc, ◌+◌, ◌-◌, ◌*◌, ◌/◌, ◌%◌, ◌<◌, ◌≤◌, List, [], ◌∷◌, ◌++◌, codes, replicate, drop, ◌==◌, if◌then◌else◌, Option, Some, None, ℤ, pos, ◌+ℤ◌, ◌-ℤ◌, ◌*ℤ◌, ◌≤ℤ◌, unsigned_abs}
+use Rattle.std.specs.Prelude.{◌≡◌, ℕ, zero, suc, ◌+◌, ◌-◌, ◌*◌, ◌/◌, ◌%◌, ◌<◌, ◌≤◌, List, [], ◌∷◌, ◌++◌, codes, replicate, drop, ◌==◌, if◌then◌else◌, ℤ, pos, ◌+ℤ◌, ◌-ℤ◌, ◌*ℤ◌, ◌≤ℤ◌, unsigned_abs}
 use Rattle.std.specs.Int.{int_div_euclid, int_rem_euclid}
 use Rattle.cs_types.specs.declared.moment.StampFault.{StampFault}
 use Rattle.cs_types.specs.declared.moment.StampFault.TheVariants.{Shape, Range, TooFine}
-use Rattle.cs_types.specs.Shape.{allows, Fits, IsFaultPlace, two_at, two_digits}
+use Rattle.cs_types.specs.Shape.{Fits, IsFaultPlace, two_at, two_digits}
 use Rattle.cs_types.specs.Civil.{HasCivilDate, date_field, date_text}
 
 -- the microseconds from 0001-01-01T00:00:00Z to the last one of the year 9999
@@ -106,29 +106,3 @@ clock_text us =
 -- the one written text of a moment
 unfoldable pub moment_text : ℤ → List ℕ
 moment_text us = date_text (day_number us) ++ clock_text (microsecond_of us)
-
--- where the text is at its end, none; else its first place
-unfoldable pub ended : ℕ → List ℕ → Option ℕ
-ended at [] = None
-ended at (b ∷ bs) = Some at
-
--- where a rest of a text that begins at a place is not `Z` alone
-unfoldable pub zulu : ℕ → List ℕ → Option ℕ
-zulu at [] = Some at
-zulu at (b ∷ bs) = if b == 90 then ended (at + 1) bs else Some at
-
--- where it is not so many digits at most and `Z`
-unfoldable pub closing : ℕ → ℕ → List ℕ → Option ℕ
-closing zero at bs = zulu at bs
-closing (suc left) at [] = Some at
-closing (suc left) at (b ∷ bs) = if allows 100 b then closing left (at + 1) bs else zulu at (b ∷ bs)
-
--- where it is not 1 to 9 digits and `Z`
-unfoldable pub digits_fault : ℕ → List ℕ → Option ℕ
-digits_fault at [] = Some at
-digits_fault at (b ∷ bs) = if allows 100 b then closing 8 (at + 1) bs else Some at
-
--- where it is not what stands behind the seconds
-unfoldable pub fraction_fault : ℕ → List ℕ → Option ℕ
-fraction_fault at [] = Some at
-fraction_fault at (b ∷ bs) = if b == 46 then digits_fault (at + 1) bs else zulu at (b ∷ bs)

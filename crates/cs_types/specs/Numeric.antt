@@ -1,9 +1,9 @@
 -- The texts of a NUMERIC (GoogleSQL data types: 29 digits before the point and 9 behind it), held in billionths.
-use Rattle.std.specs.Prelude.{◌≡◌, ℕ, zero, suc, ◌+◌, ◌*◌, ◌/◌, ◌%◌, ◌^◌, ◌<◌, ◌≤◌, List, [], ◌∷◌, ◌++◌, Bool, true, false, ◌&&◌, nat_lt, ◌==◌, length, drop, ℤ, pos, negsuc, neg_ℤ, ◌-ℤ◌, ◌<ℤ◌, if◌then◌else◌, Option, Some, None, Result, Ok, Err, decimal, cond}
+use Rattle.std.specs.Prelude.{◌≡◌, ◌⊎◌, ℕ, zero, suc, ◌+◌, ◌*◌, ◌/◌, ◌%◌, ◌^◌, ◌<◌, List, [], ◌∷◌, ◌++◌, Bool, true, false, nat_lt, ◌==◌, length, drop, ℤ, pos, negsuc, neg_ℤ, ◌-ℤ◌, ◌<ℤ◌, if◌then◌else◌, Option, Some, None, Result, Ok, Err, decimal, cond}
 use Rattle.std.specs.Str.Parse.{digits_value}
 use Rattle.cs_types.specs.declared.value_fault.ValueFault.{ValueFault}
 use Rattle.cs_types.specs.declared.value_fault.ValueFault.TheVariants.{Range, BadText}
-use Rattle.cs_types.specs.Digits.{all_digits, all_zeros, is_digits, first_digits}
+use Rattle.cs_types.specs.Digits.{all_zeros, is_digits, first_digits}
 
 -- below 10^38 billionths in absolute value
 abbrev pub IsNumeric : ℤ → Type 0
@@ -70,3 +70,21 @@ magnitude_text m = decimal (m / 1000000000) ++ fraction_text (m % 1000000000)
 abbrev pub numeric_text : ℤ → List ℕ
 numeric_text (pos m) = magnitude_text m
 numeric_text (negsuc m) = 45 ∷ magnitude_text (suc m)
+
+-- the text is digits, or digits with a point and digits behind it
+abbrev pub IsPointed : List ℕ → List ℕ → List ℕ → Type 0
+IsPointed text whole fraction = ((text ≡ whole) × (fraction ≡ [])) ⊎ ((text ≡ whole ++ 46 ∷ fraction) × (is_digits fraction ≡ true))
+
+-- the text is that many billionths, below 10^38 of them
+pub record SpellsMagnitude (text : List ℕ) (m : ℕ) : Type 0 where
+  pub whole : List ℕ
+  pub fraction : List ℕ
+  pub parts : IsPointed text whole fraction
+  pub digits : is_digits whole ≡ true
+  -- the number of all its digits, a tenth of it for each digit behind the point, in billionths
+  pub number : m * 10 ^ length fraction ≡ digits_value 10 (whole ++ fraction) * 10 ^ 9
+  pub below : m < 10 ^ 38
+
+-- the text is that many billionths, with a minus or none in front
+abbrev pub SpellsNumeric : List ℕ → ℤ → Type 0
+SpellsNumeric text n = (m : ℕ) × ((SpellsMagnitude text m × (n ≡ pos m)) ⊎ ((rest : List ℕ) × (text ≡ 45 ∷ rest) × SpellsMagnitude rest m × (n ≡ neg_ℤ (pos m))))

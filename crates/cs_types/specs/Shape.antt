@@ -1,5 +1,5 @@
 -- Texts of a fixed shape, told by patterns, and the place where a text leaves its shape; this project's own.
-use Rattle.std.specs.Prelude.{◌≡◌, ℕ, suc, ◌+◌, ◌*◌, ◌-◌, ◌/◌, ◌%◌, ◌<◌, ◌≤◌, List, [], ◌∷◌, ◌++◌, length, take, slice_index, Bool, ◌&&◌, ◌==◌, nat_le, IsTrue, if◌then◌else◌, Option, Some, None, ⊤}
+use Rattle.std.specs.Prelude.{◌≡◌, ℕ, suc, ◌+◌, ◌*◌, ◌-◌, ◌/◌, ◌%◌, ◌<◌, ◌≤◌, List, [], ◌∷◌, ◌++◌, length, take, slice_index, Bool, ◌&&◌, ◌==◌, nat_le, IsTrue, if◌then◌else◌, ⊤}
 
 -- what a byte of a pattern allows: `d` any digit, and each other byte itself
 abbrev pub allows : ℕ → ℕ → Bool
@@ -38,9 +38,3 @@ two_digits n = (48 + n / 10) ∷ (48 + n % 10) ∷ []
 -- a number below 10,000 in four digits
 abbrev pub four_digits : ℕ → List ℕ
 four_digits n = two_digits (n / 100) ++ two_digits (n % 100)
-
--- the first place, counted on from `at`, at which a text does not fit a pattern; none where it begins with a fit
-unfoldable pub unfit : ℕ → List ℕ → List ℕ → Option ℕ
-unfit at [] text = None
-unfit at (m ∷ ms) [] = Some at
-unfit at (m ∷ ms) (b ∷ bs) = if allows m b then unfit (at + 1) ms bs else Some at

@@ -1,4 +1,4 @@
-use crate::{Memory, Text};
+use crate::{Duplicate, Memory, Text};
 use std::alloc::AllocFailed;
 
 /// Why a list of cells is no row's.
@@ -10,6 +10,16 @@ pub enum CellsFault {
     OutOfRange(Text),
     /// Want of memory.
     Memory,
+}
+
+impl Duplicate for CellsFault {
+    fn copy(&self) -> Result<CellsFault, Memory> {
+        Ok(match self {
+            CellsFault::ColumnTwice(column) => CellsFault::ColumnTwice(column.copy()?),
+            CellsFault::OutOfRange(column) => CellsFault::OutOfRange(column.copy()?),
+            CellsFault::Memory => CellsFault::Memory,
+        })
+    }
 }
 
 impl From<Memory> for CellsFault {

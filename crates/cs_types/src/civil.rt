@@ -74,7 +74,7 @@ pub(crate) fn write_date(alloc: Global, day: i32) -> Result<Text, Memory>
     ensures spelled { SpellsDate (date_text day) day }
 {
     let text = date_string(alloc, day)?;
-    Text::of(alloc, text.as_str())
+    Text::from_string(text)
 }
 
 /// The same, as a string.

@@ -5,8 +5,8 @@ ghost use Rattle.cs_types.specs.Digits.{all_digits, all_zeros, is_digits, first_
 /// What a NUMERIC's billionths stay below: 10^38.
 const END: u128 = 100_000_000_000_000_000_000_000_000_000_000_000_000;
 
-/// Whether each byte is a decimal digit.
-pub(crate) fn are_digits(bytes: &[u8]) -> bool
+/// Whether each byte is a decimal digit. It takes no memory.
+pub fn are_digits(bytes: &[u8]) -> bool
     ensures { result ≡ all_digits bytes.now }
 {
     let mut rest = bytes;
@@ -22,8 +22,8 @@ pub(crate) fn are_digits(bytes: &[u8]) -> bool
     true
 }
 
-/// Whether there is one digit or more, and nothing else.
-pub(crate) fn is_digits(bytes: &[u8]) -> bool
+/// Whether there is one digit or more, and nothing else. It takes no memory.
+pub fn is_digits(bytes: &[u8]) -> bool
     ensures { result ≡ is_digits bytes.now }
 {
     !bytes.is_empty() && are_digits(bytes)

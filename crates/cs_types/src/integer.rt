@@ -1,6 +1,5 @@
-ghost use Rattle.std.specs.Prelude.{◌≡◌, IfOk, OnOk, FitsSigned, string_bytes};
-ghost use Rattle.std.specs.Int.{w64};
-ghost use Rattle.std.specs.Fmt.{signed_decimal};
+ghost use Rattle.std.specs.Prelude.{◌≡◌, ◌≤◌, IfOk, length, string_bytes};
+ghost use Rattle.std.specs.Fmt.{decimal, signed_decimal};
 ghost use Rattle.cs_types.specs.Integer.{integer_reading, is_integer_text, is_numeral};
 
 use crate::digits::are_digits;
@@ -42,8 +41,28 @@ fn is_numeral(digits: &[u8]) -> bool
 
 /// The one text that is written for a number.
 pub(crate) fn write_integer(alloc: Global, n: i64) -> Result<String, Memory>
-    ensures written { IfOk result (λ t. string_bytes t ≡ signed_decimal n) }
-    ensures fits { OnOk result (FitsSigned w64 n) }
+    ensures { IfOk result (λ t. string_bytes t ≡ signed_decimal n) }
 {
     Ok(format!(in alloc; "{n}")?)
+}
+
+/// How many bytes the text of a number has, counted and not written.
+pub fn integer_length(n: i64) -> usize
+    ensures { result ≡ length (signed_decimal n) }
+{
+    let digits = count_digits(n.unsigned_abs());
+    if n < 0 { 1 + digits } else { digits }
+}
+
+fn count_digits(n: u64) -> usize
+    ensures value { result ≡ length (decimal n) }
+    ensures few { result ≤ 20 }
+{
+    let mut count = 1;
+    let mut rest = n;
+    while rest >= 10 {
+        rest /= 10;
+        count += 1;
+    }
+    count
 }

@@ -1,12 +1,14 @@
 ghost use Rattle.std.specs.Prelude.{◌≡◌, ◌+◌, ◌*◌, ◌-◌, ◌%◌, ◌<◌, ◌≤◌, ℤ, pos, ◌+ℤ◌, ◌*ℤ◌, ◌-ℤ◌, ◌≤ℤ◌, Ok, length, drop, IfOk, MatchResult, MatchOption, SomeIff, IfSome, string_bytes};
 ghost use Rattle.cs_types.specs.Shape.{IsFaultPlace};
 ghost use Rattle.cs_types.specs.Civil.{IsDay};
-ghost use Rattle.cs_types.specs.Moment.{IsMoment, IsMomentShape, HasClock, HasCivilMoment, IsFaultBetween, IsMomentFault, SpellsBetween, SpellsMoment, moment_field, clock_field, nanosecond_field, ended, zulu, closing, digits_fault, fraction_fault, clock_text, fraction_text, moment_text};
+ghost use Rattle.cs_types.specs.Moment.{IsMoment, IsMomentShape, HasClock, HasCivilMoment, IsFaultBetween, IsMomentFault, SpellsBetween, SpellsMoment, moment_field, clock_field, nanosecond_field, moment_text};
+ghost use Rattle.cs_types.specs.ShapeWalk.{ended, zulu, closing, digits_fault, fraction_fault};
 
 use crate::civil::{date_string, first_date};
-use crate::shape::{is_digit, two_at, two_digits, unfit};
+use crate::clock::put_clock;
+use crate::shape::{is_digit, two_at, unfit};
 use crate::{Memory, Text};
-use std::alloc::{AllocError, Global};
+use std::alloc::Global;
 
 /// A date, `T` and a time of day, as far as the seconds.
 const HEAD: &[u8] = b"dddd-dd-ddTdd:dd:dd";
@@ -211,41 +213,15 @@ pub(crate) fn write_moment(alloc: Global, us: i64) -> Result<Text, Memory>
     ensures spelled { SpellsMoment (moment_text us) us }
 {
     let text = moment_string(alloc, us)?;
-    Text::of(alloc, text.as_str())
+    Text::from_string(text)
 }
 
-fn moment_string(alloc: Global, us: i64) -> Result<String, AllocError>
+/// The same, as a string.
+pub(crate) fn moment_string(alloc: Global, us: i64) -> Result<String, Memory>
     requires { IsMoment us }
     ensures { IfOk result (λ s. string_bytes s ≡ moment_text us) }
 {
-    let date = date_string(alloc, us.div_euclid(DAY) as i32)?;
-    let clock = clock_string(alloc, us.rem_euclid(DAY) as u64)?;
-    format!(in alloc; "{date}{clock}")
-}
-
-/// The text of the time of day, from the microseconds since midnight.
-fn clock_string(alloc: Global, us: u64) -> Result<String, AllocError>
-    requires { us < 86400000000 }
-    ensures { IfOk result (λ s. string_bytes s ≡ clock_text us) }
-{
-    let second = (us / 1_000_000) as u32;
-    let hours = two_digits(alloc, second / 60 / 60)?;
-    let minutes = two_digits(alloc, second / 60 % 60)?;
-    let seconds = two_digits(alloc, second % 60)?;
-    let fraction = fraction_string(alloc, (us % 1_000_000) as u32)?;
-    format!(in alloc; "T{hours}:{minutes}:{seconds}{fraction}Z")
-}
-
-/// Nothing for zero, else a point and the six digits of the microseconds.
-fn fraction_string(alloc: Global, us: u32) -> Result<String, AllocError>
-    requires { us < 1000000 }
-    ensures { IfOk result (λ s. string_bytes s ≡ fraction_text us) }
-{
-    if us == 0 {
-        return Ok(String::new(alloc));
-    }
-    let high = two_digits(alloc, us / 10_000)?;
-    let middle = two_digits(alloc, us / 100 % 100)?;
-    let low = two_digits(alloc, us % 100)?;
-    format!(in alloc; ".{high}{middle}{low}")
+    let mut text = date_string(alloc, us.div_euclid(DAY) as i32)?;
+    put_clock(&mut text, us.rem_euclid(DAY) as u64)?;
+    Ok(text)
 }

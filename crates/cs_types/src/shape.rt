@@ -1,5 +1,6 @@
 ghost use Rattle.std.specs.Prelude.{◌≡◌, ◌+◌, ◌<◌, ◌≤◌, ◌↔◌, length, IfOk, string_bytes, IsTrue};
-ghost use Rattle.cs_types.specs.Shape.{allows, Fits, unfit, digit_at, two_at, two_digits as two_digits_text, four_digits as four_digits_text};
+ghost use Rattle.cs_types.specs.Shape.{allows, Fits, digit_at, two_at, two_digits as two_digits_text, four_digits as four_digits_text};
+ghost use Rattle.cs_types.specs.ShapeWalk.{unfit};
 
 use std::alloc::{AllocError, Global};
 
@@ -22,7 +23,7 @@ fn allows(mark: u8, byte: u8) -> bool
 }
 
 /// The first place at which the text does not fit the pattern, or where it ends early.
-#[tactic(auto, unfolding(crate::specs::Shape::unfit))]
+#[tactic(auto, unfolding(crate::specs::ShapeWalk::unfit))]
 pub(crate) fn unfit(pattern: &[u8], text: &[u8]) -> Option<usize>
     ensures { result ≡ unfit 0 pattern.now text.now }
 {
@@ -67,7 +68,7 @@ pub(crate) fn two_at(text: &[u8], at: usize) -> u32
 
 /// A number below 100 in two digits.
 #[tactic(auto, using(std::proofs::lemmas::Fmt::decimal_digit))]
-pub(crate) fn two_digits(alloc: Global, n: u32) -> Result<String, AllocError>
+pub fn two_digits(alloc: Global, n: u32) -> Result<String, AllocError>
     requires { n < 100 }
     ensures { IfOk result (λ s. string_bytes s ≡ two_digits_text n) }
 {
@@ -75,7 +76,7 @@ pub(crate) fn two_digits(alloc: Global, n: u32) -> Result<String, AllocError>
 }
 
 /// A number below 10,000 in four digits.
-pub(crate) fn four_digits(alloc: Global, n: u32) -> Result<String, AllocError>
+pub fn four_digits(alloc: Global, n: u32) -> Result<String, AllocError>
     requires { n < 10000 }
     ensures { IfOk result (λ s. string_bytes s ≡ four_digits_text n) }
 {

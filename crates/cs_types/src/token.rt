@@ -65,7 +65,9 @@ fn is_token(bytes: &[u8]) -> bool
     !bytes.is_empty() && bytes.len() <= Token::MOST && are_token_bytes(bytes)
 }
 
-fn are_token_bytes(bytes: &[u8]) -> bool
+/// Whether each byte is one that a token may have: visible ASCII, without quotes and backslash. It
+/// takes no memory.
+pub fn are_token_bytes(bytes: &[u8]) -> bool
     ensures { result ≡ are_token_bytes bytes.now }
 {
     let mut rest = bytes;

@@ -1,6 +1,6 @@
 use Rattle.std.proofs.Common.{◌≡◌, ◌-◌, ◌+◌, ℕ, get_or, drop, true, false, sym, ap, ◌∙◌, arith}
 use Rattle.cs_types.specs.Shape.{allows}
-use Rattle.cs_types.specs.Moment.{closing}
+use Rattle.cs_types.specs.ShapeWalk.{closing}
 use Rattle.cs_types.proofs.Walk.{closing_early, closing_digit, closing_other, closing_zero}
 use Rattle.cs_types.proofs.moment.closing_fault.Goals as goal
 

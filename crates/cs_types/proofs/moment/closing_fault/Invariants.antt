@@ -1,5 +1,5 @@
 use Rattle.std.proofs.Common.{◌≡◌, ◌-◌, drop}
-use Rattle.cs_types.specs.Moment.{closing}
+use Rattle.cs_types.specs.ShapeWalk.{closing}
 use Rattle.cs_types.proofs.moment.closing_fault.Given as goal
 
 abbrev pub invariant-loop-at : goal.invariant-loop-at

@@ -1,6 +1,6 @@
 use Rattle.std.proofs.Common.{◌≡◌, ℕ, ◌<◌, ◌≤◌, length, drop, Some, List, refl, sym, ◌∙◌, arith, drop-cons}
 use Rattle.std.proofs.Math.ListN.{drop_of_length-le}
-use Rattle.cs_types.specs.Shape.{unfit}
+use Rattle.cs_types.specs.ShapeWalk.{unfit}
 use Rattle.cs_types.proofs.shape.unfit.Goals as goal
 
 early : (at : ℕ) (pattern text : List ℕ) → at < length pattern → length text ≤ at → unfit at (drop at pattern) (drop at text) ≡ Some at

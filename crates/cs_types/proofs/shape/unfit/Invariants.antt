@@ -1,5 +1,5 @@
 use Rattle.std.proofs.Common.{◌≡◌, drop}
-use Rattle.cs_types.specs.Shape.{unfit}
+use Rattle.cs_types.specs.ShapeWalk.{unfit}
 use Rattle.cs_types.proofs.shape.unfit.Given as goal
 
 abbrev pub invariant-loop-at : goal.invariant-loop-at

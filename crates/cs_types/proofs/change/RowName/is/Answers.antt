@@ -1,7 +1,7 @@
 use Rattle.std.proofs.Common.{◌∙◌, ap, ◌≡◌}
 use Rattle.std.specs.Ordering.{is_eq}
 use Rattle.cs_types.specs.Row.{same_row}
-use Rattle.cs_types.proofs.SameRow.{same_row-is}
+use Rattle.cs_types.specs.Exact.{same_row-is}
 use Rattle.cs_types.proofs.change.RowName.is.Goals as goal
 
 pub returns : goal.returns

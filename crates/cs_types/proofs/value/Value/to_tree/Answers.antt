@@ -1,7 +1,7 @@
 use Rattle.std.proofs.Common.{◌≡◌, Ok, rules, sym, ap, ◌∙◌}
 use Rattle.cs_types.specs.Value.{value_reading, value_data}
-use Rattle.cs_types.proofs.ReadBack.{spells_written}
+use Rattle.cs_types.proofs.ReadBack.{reads_back}
 use Rattle.cs_types.proofs.value.Value.to_tree.Goals as goal
 
 pub returns-clause-reads_back : goal.returns-clause-reads_back
-returns-clause-reads_back c = λ ty of. ap (value_reading ty) c.in_ok-tree.ensures.written ∙ spells_written ty c.args.self.now of c.requires c.in_ok-tree.ensures.within
+returns-clause-reads_back c = λ ty of. ap (value_reading ty) c.in_ok-tree.ensures ∙ reads_back ty c.args.self.now of c.requires
