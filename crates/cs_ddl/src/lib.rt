@@ -27,6 +27,3 @@ pub use tree::{
     WatchItem, WatchTree,
 };
 pub use word::Word;
-
-#[cfg(test)]
-mod tests;

@@ -5,7 +5,7 @@ use Rattle.std.specs.Ordering.{nat_cmp}
 use Rattle.std.specs.Cmp.Lexicographic.{slice_cmp}
 use Rattle.std.specs.BTreeMap.{BTreeMap, get, is_at}
 use Rattle.std.proofs.lemmas.List.{take_more, drop_more}
-use Rattle.cs_schema.specs.Names.{is_same, is_among, first_again, HoldsNames}
+use Rattle.cs_types.specs.Names.{is_same, is_among, first_again, HoldsNames}
 
 pub take_next : {X : Type 0} (xs : List X) (i : ℕ) (x : X) → i < length xs → x ≡ get_or xs i x → take (i + 1) xs ≡ take i xs ++ x ∷ []
 take_next xs i x lt e = take_more xs i x lt ∙ ap (λ y. take i xs ++ y ∷ []) (sym e)
@@ -13,7 +13,7 @@ take_next xs i x lt e = take_more xs i x lt ∙ ap (λ y. take i xs ++ y ∷ [])
 pub drop_next : {X : Type 0} (xs : List X) (i : ℕ) (x : X) → i < length xs → x ≡ get_or xs i x → drop i xs ≡ x ∷ drop (i + 1) xs
 drop_next xs i x lt e = drop_more xs i x lt ∙ ap (λ y. y ∷ drop (i + 1) xs) (sym e)
 
-among_more : (q : List ℕ) (ns : List (List ℕ)) (n : List ℕ) → is_among q (ns ++ n ∷ []) ≡ cond (is_same n q) true (is_among q ns)
+pub among_more : (q : List ℕ) (ns : List (List ℕ)) (n : List ℕ) → is_among q (ns ++ n ∷ []) ≡ cond (is_same n q) true (is_among q ns)
 among_more q [] n = refl
 among_more q (x ∷ ns) n =
     ap (cond (is_same x q) true) (among_more q ns n)

@@ -1,4 +1,10 @@
 pub mod Again
+pub mod Decimals
+pub mod Differ
+pub mod Limits
+pub mod Named
 pub mod Over
 pub mod Places
+pub mod SoundStreams
+pub mod SoundTables
 pub mod WatchPlaces

@@ -13,7 +13,8 @@ use Rattle.cs_schema.specs.declared.types.Column.{Column}
 use Rattle.std.specs.BTreeMap.{BTreeMap, get, is_at}
 use Rattle.std.proofs.lemmas.Map.Lookups.{exact_bytes}
 use Rattle.cs_schema.specs.declared.types.Table.{Table}
-use Rattle.cs_schema.specs.Names.{or_this, is_same}
+use Rattle.std.specs.Option.{option_or}
+use Rattle.cs_types.specs.Names.{is_same}
 use Rattle.cs_schema.specs.Tables.{flat, table_named, place_named, next_place, PlacesOf, with_column, grown}
 
 -- what stands at a place, if there is one
@@ -26,7 +27,7 @@ named_stands name [] = (refl, refl)
 named_stands name (t ∷ ts) = at (place_named name ts) (table_named name ts) (is_same t.name name) (named_stands name ts).0 (named_stands name ts).1
   where
     at : (p : Option ℕ) (o : Option Table) (b : Bool) → standing ts p ≡ o → is_some p ≡ is_some o
-        → (standing (t ∷ ts) (or_this (next_place p) (cond b (Some 0) None)) ≡ or_this o (cond b (Some t) None)) × (is_some (or_this (next_place p) (cond b (Some 0) None)) ≡ is_some (or_this o (cond b (Some t) None)))
+        → (standing (t ∷ ts) (option_or (next_place p) (cond b (Some 0) None)) ≡ option_or o (cond b (Some t) None)) × (is_some (option_or (next_place p) (cond b (Some 0) None)) ≡ is_some (option_or o (cond b (Some t) None)))
     at None None true e f = (refl, refl)
     at None None false e f = (refl, refl)
     at None (Some x) b e f = absurd (true≢false (sym f))
@@ -46,10 +47,10 @@ room_same m n k q u absent = cases (slice_cmp nat_cmp k q) refl u
     cases Equal e u = ap flat u ∙ sym (none_there (get (slice_cmp nat_cmp) m k) absent) ∙ ap (λ x. flat (get (slice_cmp nat_cmp) m x)) (exact_bytes k q e)
 
 place_more : (name : List ℕ) (ts : List Table) (t : Table) → place_named name (ts ++ t ∷ []) ≡ cond (is_same t.name name) (Some (length ts)) (place_named name ts)
-place_more name [] t = elim (is_same t.name name) as (λ b. or_this {A = ℕ} None (cond b (Some 0) None) ≡ cond b (Some 0) None) [ true ↦ refl | false ↦ refl ]
+place_more name [] t = elim (is_same t.name name) as (λ b. option_or {T = ℕ} None (cond b (Some 0) None) ≡ cond b (Some 0) None) [ true ↦ refl | false ↦ refl ]
 place_more name (x ∷ ts) t =
-    ap (λ o. or_this (next_place o) (cond (is_same x.name name) (Some 0) None)) (place_more name ts t)
-    ∙ elim (is_same t.name name) as (λ b. or_this (next_place (cond b (Some (length ts)) (place_named name ts))) (cond (is_same x.name name) (Some 0) None) ≡ cond b (Some (suc (length ts))) (place_named name (x ∷ ts))) [ true ↦ refl | false ↦ refl ]
+    ap (λ o. option_or (next_place o) (cond (is_same x.name name) (Some 0) None)) (place_more name ts t)
+    ∙ elim (is_same t.name name) as (λ b. option_or (next_place (cond b (Some (length ts)) (place_named name ts))) (cond (is_same x.name name) (Some 0) None) ≡ cond b (Some (suc (length ts))) (place_named name (x ∷ ts))) [ true ↦ refl | false ↦ refl ]
 
 flat_cond : (b : Bool) (v : ℕ) (o : Option (Option ℕ)) → flat (cond b (Some (Some v)) o) ≡ cond b (Some v) (flat o)
 flat_cond true v o = refl
@@ -65,7 +66,7 @@ places_more m n ts x h u q =
 
 -- a column more
 
-neither : {A : Type 0} (a b : Option A) → or_this a b ≡ None → (a ≡ None) × (b ≡ None)
+neither : {A : Type 0} (a b : Option A) → option_or a b ≡ None → (a ≡ None) × (b ≡ None)
 neither None b e = (refl, e)
 neither (Some x) b e = absurd (true≢false (ap is_some e))
 
@@ -78,7 +79,7 @@ same_place q name column [] = refl
 same_place q name column (t ∷ ts) = at (same_place q name column ts) (is_some (table_named name ts)) (is_same t.name name)
   where
     at : place_named q (with_column name column ts) ≡ place_named q ts → (a b : Bool) → place_named q (cond a (t ∷ with_column name column ts) (cond b (grown t column ∷ ts) (t ∷ ts))) ≡ place_named q (t ∷ ts)
-    at h true b = ap (λ p. or_this (next_place p) (cond (is_same t.name q) (Some 0) None)) h
+    at h true b = ap (λ p. option_or (next_place p) (cond (is_same t.name q) (Some 0) None)) h
     at h false true = refl
     at h false false = refl
 
@@ -96,7 +97,7 @@ pub grown_named : (name : List ℕ) (column : Column) (ts : List Table) (i : ℕ
 grown_named name column [] i t e g = absurd (true≢false (sym (ap is_some e)))
 grown_named name column (x ∷ ts) i t e g = at (λ j h k. grown_named name column ts j t h k) (place_named name ts) (is_some (table_named name ts)) (is_same x.name name) refl (sym (named_stands name ts).1) e
   where
-    at : ((j : ℕ) → place_named name ts ≡ Some j → slice_get ts j ≡ Some t → slice_set ts j (grown t column) ≡ with_column name column ts) → (p : Option ℕ) (s b : Bool) → place_named name ts ≡ p → s ≡ is_some (place_named name ts) → or_this (next_place p) (cond b (Some 0) None) ≡ Some i → slice_set (x ∷ ts) i (grown t column) ≡ cond s (x ∷ with_column name column ts) (cond b (grown x column ∷ ts) (x ∷ ts))
+    at : ((j : ℕ) → place_named name ts ≡ Some j → slice_get ts j ≡ Some t → slice_set ts j (grown t column) ≡ with_column name column ts) → (p : Option ℕ) (s b : Bool) → place_named name ts ≡ p → s ≡ is_some (place_named name ts) → option_or (next_place p) (cond b (Some 0) None) ≡ Some i → slice_set (x ∷ ts) i (grown t column) ≡ cond s (x ∷ with_column name column ts) (cond b (grown x column ∷ ts) (x ∷ ts))
     at f (Some j) true b h k r =
         let is : suc j ≡ i = some_same r in
         subst (λ n. slice_set (x ∷ ts) n (grown t column) ≡ x ∷ with_column name column ts) is

@@ -7,7 +7,8 @@ use Rattle.std.specs.List.{slice_get}
 use Rattle.std.specs.BTreeMap.{BTreeMap, get, is_at}
 use Rattle.std.proofs.lemmas.List.{length-take-le}
 use Rattle.cs_schema.specs.declared.types.Watched.{Watched}
-use Rattle.cs_schema.specs.Names.{or_this, is_same}
+use Rattle.std.specs.Option.{option_or}
+use Rattle.cs_types.specs.Names.{is_same}
 use Rattle.cs_schema.specs.Tables.{next_place}
 use Rattle.cs_schema.specs.WatchList.{item_of, place_of, ItemPlaces}
 use Rattle.cs_schema.proofs.Again.{take_next}
@@ -22,7 +23,7 @@ item_stands table [] = (refl, refl)
 item_stands table (w ∷ ws) = at (place_of table ws) (item_of table ws) (is_same w.table table) (item_stands table ws).0 (item_stands table ws).1
   where
     at : (p : Option ℕ) (o : Option Watched) (b : Bool) → item_standing ws p ≡ o → is_some p ≡ is_some o
-        → (item_standing (w ∷ ws) (or_this (next_place p) (cond b (Some 0) None)) ≡ or_this o (cond b (Some w) None)) × (is_some (or_this (next_place p) (cond b (Some 0) None)) ≡ is_some (or_this o (cond b (Some w) None)))
+        → (item_standing (w ∷ ws) (option_or (next_place p) (cond b (Some 0) None)) ≡ option_or o (cond b (Some w) None)) × (is_some (option_or (next_place p) (cond b (Some 0) None)) ≡ is_some (option_or o (cond b (Some w) None)))
     at None None true e f = (refl, refl)
     at None None false e f = (refl, refl)
     at None (Some x) b e f = absurd (true≢false (sym f))
@@ -30,10 +31,10 @@ item_stands table (w ∷ ws) = at (place_of table ws) (item_of table ws) (is_sam
     at (Some i) (Some x) b e f = (e, refl)
 
 item_more : (table : List ℕ) (ws : List Watched) (w : Watched) → place_of table (ws ++ w ∷ []) ≡ cond (is_same w.table table) (Some (length ws)) (place_of table ws)
-item_more table [] w = elim (is_same w.table table) as (λ b. or_this {A = ℕ} None (cond b (Some 0) None) ≡ cond b (Some 0) None) [ true ↦ refl | false ↦ refl ]
+item_more table [] w = elim (is_same w.table table) as (λ b. option_or {T = ℕ} None (cond b (Some 0) None) ≡ cond b (Some 0) None) [ true ↦ refl | false ↦ refl ]
 item_more table (x ∷ ws) w =
-    ap (λ o. or_this (next_place o) (cond (is_same x.table table) (Some 0) None)) (item_more table ws w)
-    ∙ elim (is_same w.table table) as (λ b. or_this (next_place (cond b (Some (length ws)) (place_of table ws))) (cond (is_same x.table table) (Some 0) None) ≡ cond b (Some (suc (length ws))) (place_of table (x ∷ ws))) [ true ↦ refl | false ↦ refl ]
+    ap (λ o. option_or (next_place o) (cond (is_same x.table table) (Some 0) None)) (item_more table ws w)
+    ∙ elim (is_same w.table table) as (λ b. option_or (next_place (cond b (Some (length ws)) (place_of table ws))) (cond (is_same x.table table) (Some 0) None) ≡ cond b (Some (suc (length ws))) (place_of table (x ∷ ws))) [ true ↦ refl | false ↦ refl ]
 
 pub items_step : (m n : BTreeMap (List ℕ) ℕ) (ws : List Watched) (i place : ℕ) (w : Watched) → i < length ws → w ≡ get_or ws i w → place ≡ i
     → ItemPlaces (take i ws) m

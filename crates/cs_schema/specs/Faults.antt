@@ -3,17 +3,13 @@ use Rattle.std.specs.Prelude.{ℕ, List, [], ◌∷◌, Some, None, cond}
 use Rattle.std.specs.declared.option.Option.{Option}
 use Rattle.cs_schema.specs.declared.fault.SchemaFault.{SchemaFault}
 use Rattle.cs_schema.specs.declared.fault.SchemaFault.TheVariants.{NoColumn, ColumnTwice, Memory}
-use Rattle.cs_schema.specs.Names.{or_this, is_among, first_again}
+use Rattle.std.specs.Option.{option_or}
+use Rattle.cs_types.specs.Names.{is_among, first_again}
 
 -- all refusals but want of memory
 abbrev pub not_memory : SchemaFault → Type 0
 not_memory Memory = ⊥
 not_memory _ = Unit {0}
-
--- the fault of the first element that has one
-abbrev pub first_of : {X : Type 0} → (X → Option SchemaFault) → List X → Option SchemaFault
-first_of f [] = None
-first_of f (x ∷ xs) = or_this (f x) (first_of f xs)
 
 -- a name that is not among these columns
 abbrev pub no_column : List (List ℕ) → List ℕ → Option SchemaFault

@@ -2,11 +2,13 @@
 use Rattle.std.specs.Prelude.{ℕ, List, [], ◌∷◌, ◌+◌, ◌-◌, ◌*◌, Some, None, cond, Bool, ◌&&◌, nat_le}
 use Rattle.std.specs.declared.option.Option.{Option}
 use Rattle.std.specs.Str.Lossy.{utf8_lossy}
+use Rattle.std.specs.Str.Parse.{digits_value}
 use Rattle.cs_ddl.specs.declared.tree.Size.{Size}
 use Rattle.cs_ddl.specs.declared.tree.Size.TheVariants.{Max, Number}
 use Rattle.cs_ddl.specs.declared.tree.TypeTree.{TypeTree}
 use Rattle.cs_ddl.specs.declared.tree.TypeTree.TheVariants.{Bool as bool_tree, Int64 as int64_tree, Numeric as numeric_tree, Date as date_tree, Timestamp as timestamp_tree, Text as text_tree, Bytes as bytes_tree}
 use Rattle.cs_ddl.specs.declared.tree.ColumnTree.{ColumnTree}
+use Rattle.cs_types.specs.Digits.{all_digits}
 use Rattle.cs_types.specs.declared.column_type.ColumnType.{ColumnType}
 use Rattle.cs_types.specs.declared.column_type.ColumnType.TheVariants.{Bool as bool_type, Int64, Numeric, Text, Bytes, Date, Timestamp}
 use Rattle.cs_schema.specs.declared.types.Column.{Column}
@@ -17,14 +19,22 @@ use Rattle.cs_schema.specs.declared.fault.SchemaFault.TheVariants.{BadLength}
 abbrev pub is_digit : ℕ → Bool
 is_digit c = nat_le 48 c && nat_le c 57
 
--- the number that goes on from n with these digits, if it is from 1 to most
+-- a number from 1 to the most
+abbrev pub length_if : ℕ → ℕ → Option ℕ
+length_if most n = cond (nat_le 1 n && nat_le n most) (Some n) None
+
+-- the number of a decimal text, if it is from 1 to the most
+abbrev pub length_of : ℕ → List ℕ → Option ℕ
+length_of most digits = cond (all_digits digits) (length_if most (digits_value 10 digits)) None
+
+-- the same, read from the left: the number that goes on from n with these digits
 abbrev pub length_from : ℕ → ℕ → List ℕ → Option ℕ
-length_from most n [] = cond (nat_le 1 n && nat_le n most) (Some n) None
+length_from most n [] = length_if most n
 length_from most n (c ∷ cs) = cond (is_digit c) (length_from most (n * 10 + (c - 48)) cs) None
 
 abbrev pub size_of : ℕ → Size → Option ℕ
 size_of most Max = Some most
-size_of most (Number digits) = length_from most 0 digits
+size_of most (Number digits) = length_of most digits
 
 -- the greatest length of a type that has one
 abbrev pub limit_of : TypeTree → Option ℕ

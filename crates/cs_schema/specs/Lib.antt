@@ -1,9 +1,12 @@
 pub mod Applying
 pub mod Faults
+pub mod Growing
 pub mod Lengths
 pub mod Making
 pub mod Names
 pub mod Options
+pub mod Schema
+pub mod Sound
 pub mod Streaming
 pub mod Tables
 pub mod WatchList

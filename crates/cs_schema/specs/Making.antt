@@ -1,5 +1,5 @@
 -- When CREATE TABLE and ADD COLUMN are refused (Spanner's page on its data definition language and its limits; the order and the numbers are this project's own).
-use Rattle.std.specs.Prelude.{ℕ, List, [], ◌∷◌, Some, None, cond, is_some, length, nat_le, nat_lt}
+use Rattle.std.specs.Prelude.{ℕ, List, Some, None, cond, is_some, length, nat_le, nat_lt}
 use Rattle.std.specs.declared.option.Option.{Option}
 use Rattle.std.specs.Str.Lossy.{utf8_lossy}
 use Rattle.cs_ddl.specs.declared.tree.ColumnTree.{ColumnTree}
@@ -9,15 +9,15 @@ use Rattle.cs_schema.specs.declared.types.Table.{Table}
 use Rattle.cs_schema.specs.declared.types.Stream.{Stream}
 use Rattle.cs_schema.specs.declared.fault.SchemaFault.{SchemaFault}
 use Rattle.cs_schema.specs.declared.fault.SchemaFault.TheVariants.{TableThere, NoTable, ColumnTwice, ColumnWatched, TooManyColumns}
-use Rattle.cs_schema.specs.Names.{or_this, is_among, names_of}
+use Rattle.cs_schema.specs.Names.{names_of}
+use Rattle.std.specs.Option.{option_or}
+use Rattle.cs_types.specs.Names.{is_among}
 use Rattle.cs_schema.specs.Tables.{table_named}
+pub use Rattle.cs_schema.specs.Tables.{column_names}
 use Rattle.cs_schema.specs.Watching.{watchers}
 use Rattle.cs_schema.specs.Lengths.{columns_made, length_fault}
-use Rattle.cs_schema.specs.Faults.{first_of, no_column, twice_fault}
-
-abbrev pub column_names : List Column → List (List ℕ)
-column_names [] = []
-column_names (c ∷ cs) = c.name ∷ column_names cs
+use Rattle.cs_schema.specs.Faults.{no_column, twice_fault}
+use Rattle.cs_types.specs.Firsts.{first_of}
 
 -- the table that stands for a name, columns and a key
 abbrev pub table_made : List ℕ → List ColumnTree → List (List ℕ) → Table
@@ -39,12 +39,12 @@ tree_fault t = length_fault t.ty
 -- why a table is not made
 abbrev pub table_fault : List Table → List Stream → Table → List ColumnTree → Option SchemaFault
 table_fault tables streams t trees =
-    or_this (there_fault tables t.name)
-    (or_this (first_of (no_column (column_names t.columns)) t.key)
-    (or_this (twice_fault (column_names t.columns))
-    (or_this (twice_fault t.key)
-    (or_this (first_of (crowded 4 streams t.name t.key) (column_names t.columns))
-    (or_this (many_fault (length t.columns))
+    option_or (there_fault tables t.name)
+    (option_or (first_of (no_column (column_names t.columns)) t.key)
+    (option_or (twice_fault (column_names t.columns))
+    (option_or (twice_fault t.key)
+    (option_or (first_of (crowded 4 streams t.name t.key) (column_names t.columns))
+    (option_or (many_fault (length t.columns))
     (first_of tree_fault trees))))))
 
 abbrev pub again_fault : List Column → List ℕ → Option SchemaFault
@@ -56,9 +56,9 @@ full_fault columns = cond (nat_le 1024 (length columns)) (Some (TooManyColumns 1
 -- why a table gets no column of this name and type
 abbrev pub added_fault : List Stream → Table → List ℕ → TypeTree → Option SchemaFault
 added_fault streams t name ty =
-    or_this (again_fault t.columns name)
-    (or_this (crowded 4 streams t.name t.key name)
-    (or_this (full_fault t.columns)
+    option_or (again_fault t.columns name)
+    (option_or (crowded 4 streams t.name t.key name)
+    (option_or (full_fault t.columns)
     (length_fault ty)))
 
 abbrev pub added_to : Option Table → List Stream → List ℕ → List ℕ → TypeTree → Option SchemaFault

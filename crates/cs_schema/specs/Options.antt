@@ -1,8 +1,10 @@
 -- The options of a change stream: value_capture_type, retention_period and the five that leave changes out (Spanner's page 'Manage change streams'; a retention is 1 to 7 days, and one day where none is set).
-use Rattle.std.specs.Prelude.{ℕ, List, [], ◌∷◌, ◌++◌, ◌+◌, ◌-◌, ◌*◌, Some, None, cond, Bool, true, ◌&&◌, ◌==◌, nat_le, codes}
+use Rattle.std.specs.Prelude.{◌≡◌, ℕ, List, [], ◌∷◌, ◌++◌, ◌+◌, ◌-◌, ◌*◌, Some, None, cond, Bool, true, ◌&&◌, ◌==◌, nat_le, codes}
 use Rattle.std.specs.declared.option.Option.{Option}
 use Rattle.std.specs.Cmp.Lexicographic.{pointwise}
 use Rattle.std.specs.Str.Lossy.{utf8_lossy}
+use Rattle.std.specs.Str.Parse.{digits_value}
+use Rattle.cs_types.specs.Digits.{all_digits}
 use Rattle.cs_ddl.specs.declared.tree.OptionValue.{OptionValue}
 use Rattle.cs_ddl.specs.declared.tree.OptionValue.TheVariants.{Text, True, False, Null}
 use Rattle.cs_ddl.specs.declared.tree.OptionTree.{OptionTree}
@@ -12,7 +14,8 @@ use Rattle.cs_schema.specs.declared.setting.Setting.{Setting}
 use Rattle.cs_schema.specs.declared.setting.Setting.TheVariants.{Wrong, Unset, Capture, Retention, NoRetention, Exclusion}
 use Rattle.cs_schema.specs.declared.fault.SchemaFault.{SchemaFault}
 use Rattle.cs_schema.specs.declared.fault.SchemaFault.TheVariants.{BadOption, BadRetention, NotBuilt}
-use Rattle.cs_schema.specs.Names.{or_this, is_among}
+use Rattle.std.specs.Option.{option_or}
+use Rattle.cs_types.specs.Names.{is_among}
 use Rattle.cs_schema.specs.Lengths.{is_digit}
 
 abbrev pub is_text : List ℕ → List ℕ → Bool
@@ -31,7 +34,15 @@ abbrev pub unit_of : ℕ → ℕ → List ℕ → Option ℕ
 unit_of n letter [] = cond (letter == 104) (hours n) (cond (letter == 100) (days n) None)
 unit_of n letter (c ∷ cs) = None
 
--- a retention whose number goes on from n with these digits
+-- a text that means so many microseconds: decimal digits, whose number is from 24 to 168, and h, or from 1 to 7, and d
+pub record IsRetention (text : List ℕ) (us : ℕ) : Type 0 where
+  pub digits : List ℕ
+  pub letter : ℕ
+  pub made : text ≡ digits ++ letter ∷ []
+  pub decimal : all_digits digits ≡ true
+  pub unit : unit_of (digits_value 10 digits) letter [] ≡ Some us
+
+-- the same, read from the left: the retention whose number goes on from n with these digits
 abbrev pub retention_from : ℕ → List ℕ → Option ℕ
 retention_from n [] = None
 retention_from n (c ∷ cs) = cond (is_digit c) (retention_from (n * 10 + (c - 48)) cs) (unit_of n c cs)
@@ -40,8 +51,8 @@ abbrev pub or_no_retention : Option ℕ → Setting
 or_no_retention None = NoRetention
 or_no_retention (Some us) = Retention us
 
-abbrev pub capture_text : List ℕ → Setting
-capture_text t =
+abbrev pub capture_of_text : List ℕ → Setting
+capture_of_text t =
     cond (is_text t (codes "OLD_AND_NEW_VALUES")) (Capture OldAndNewValues)
     (cond (is_text t (codes "NEW_VALUES")) (Capture NewValues)
     (cond (is_text t (codes "NEW_ROW")) (Capture NewRow)
@@ -49,7 +60,7 @@ capture_text t =
     Wrong)))
 
 abbrev pub capture_setting : OptionValue → Setting
-capture_setting (Text t) = capture_text t
+capture_setting (Text t) = capture_of_text t
 capture_setting True = Wrong
 capture_setting False = Wrong
 capture_setting Null = Unset
@@ -88,7 +99,7 @@ abbrev pub option_fault : List (List ℕ) → List OptionTree → Option SchemaF
 option_fault earlier [] = None
 option_fault earlier (o ∷ os) =
     cond (is_among (utf8_lossy o.name) earlier) (Some (BadOption (utf8_lossy o.name)))
-    (or_this (wrong_fault (setting_of o) (utf8_lossy o.name)) (option_fault (earlier ++ utf8_lossy o.name ∷ []) os))
+    (option_or (wrong_fault (setting_of o) (utf8_lossy o.name)) (option_fault (earlier ++ utf8_lossy o.name ∷ []) os))
 
 abbrev pub retention_if : Setting → Option SchemaFault
 retention_if Wrong = None

@@ -15,10 +15,13 @@ use Rattle.cs_schema.specs.declared.types.Watch.TheVariants.{Nothing, All, Table
 use Rattle.cs_schema.specs.declared.types.Stream.{Stream}
 use Rattle.cs_schema.specs.declared.fault.SchemaFault.{SchemaFault}
 use Rattle.cs_schema.specs.declared.fault.SchemaFault.TheVariants.{NoTable, KeyListed, StreamThere, TooManyStreams, ItemTwice}
-use Rattle.cs_schema.specs.Names.{or_this, is_same, is_among, names_of, first_again}
-use Rattle.cs_schema.specs.Tables.{table_named}
-use Rattle.cs_schema.specs.Faults.{first_of, no_column, twice_fault}
-use Rattle.cs_schema.specs.Making.{column_names, crowded}
+use Rattle.cs_schema.specs.Names.{names_of}
+use Rattle.std.specs.Option.{option_or}
+use Rattle.cs_types.specs.Names.{is_same, is_among, first_again}
+use Rattle.cs_schema.specs.Tables.{table_named, column_names}
+use Rattle.cs_schema.specs.Faults.{no_column, twice_fault}
+use Rattle.cs_types.specs.Firsts.{first_of}
+use Rattle.cs_schema.specs.Making.{crowded}
 use Rattle.cs_schema.specs.Options.{option_fault, retention_fault, built_fault, capture_set, retention_set}
 
 -- what a watch says
@@ -136,24 +139,24 @@ many_streams streams = cond (nat_le 10 (length streams)) (Some (TooManyStreams 1
 -- the refusals of the items one by one
 abbrev pub items_fault : List Table → List Watched → Option SchemaFault
 items_fault tables ws =
-    or_this (first_of (no_table tables) ws)
-    (or_this (first_of (unknown_listed tables) ws)
-    (or_this (first_of (key_listed tables) ws)
+    option_or (first_of (no_table tables) ws)
+    (option_or (first_of (unknown_listed tables) ws)
+    (option_or (first_of (key_listed tables) ws)
     (first_of twice_listed ws)))
 
 -- the refusals of the options and of a table that stands twice
 abbrev pub options_fault : List Watched → List OptionTree → Option SchemaFault
 options_fault ws options =
-    or_this (option_fault [] options)
-    (or_this (first_of retention_fault options)
-    (or_this (first_of built_fault options)
+    option_or (option_fault [] options)
+    (option_or (first_of retention_fault options)
+    (option_or (first_of built_fault options)
     (item_twice ws)))
 
 -- why a stream is not made
 abbrev pub stream_fault : List Table → List Stream → List ℕ → Watch → List OptionTree → Option SchemaFault
 stream_fault tables streams name watch options =
-    or_this (items_fault tables (items_of watch))
-    (or_this (stream_there streams name)
-    (or_this (many_streams streams)
-    (or_this (crowded_watch tables streams watch)
+    option_or (items_fault tables (items_of watch))
+    (option_or (stream_there streams name)
+    (option_or (many_streams streams)
+    (option_or (crowded_watch tables streams watch)
     (options_fault (items_of watch) options))))

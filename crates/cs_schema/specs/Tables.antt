@@ -6,12 +6,18 @@ use Rattle.std.specs.Cmp.Lexicographic.{slice_cmp}
 use Rattle.std.specs.BTreeMap.{BTreeMap, get}
 use Rattle.cs_schema.specs.declared.types.Column.{Column}
 use Rattle.cs_schema.specs.declared.types.Table.{Table}
-use Rattle.cs_schema.specs.Names.{or_this, is_same}
+use Rattle.std.specs.Option.{option_or}
+use Rattle.cs_types.specs.Names.{is_same}
+
+-- the names of columns, in their order
+abbrev pub column_names : List Column → List (List ℕ)
+column_names [] = []
+column_names (c ∷ cs) = c.name ∷ column_names cs
 
 -- the table of a name, of two the later
 abbrev pub table_named : List ℕ → List Table → Option Table
 table_named name [] = None
-table_named name (t ∷ ts) = or_this (table_named name ts) (cond (is_same t.name name) (Some t) None)
+table_named name (t ∷ ts) = option_or (table_named name ts) (cond (is_same t.name name) (Some t) None)
 
 -- a table with one column behind the others
 abbrev pub grown : Table → Column → Table
@@ -29,7 +35,7 @@ next_place (Some i) = Some (suc i)
 
 abbrev pub place_named : List ℕ → List Table → Option ℕ
 place_named name [] = None
-place_named name (t ∷ ts) = or_this (next_place (place_named name ts)) (cond (is_same t.name name) (Some 0) None)
+place_named name (t ∷ ts) = option_or (next_place (place_named name ts)) (cond (is_same t.name name) (Some 0) None)
 
 abbrev pub flat : Option (Option ℕ) → Option ℕ
 flat None = None

@@ -5,18 +5,19 @@ use Rattle.std.specs.Ordering.{nat_cmp}
 use Rattle.std.specs.Cmp.Lexicographic.{slice_cmp}
 use Rattle.std.specs.BTreeMap.{BTreeMap, get}
 use Rattle.cs_schema.specs.declared.types.Watched.{Watched}
-use Rattle.cs_schema.specs.Names.{or_this, is_same}
+use Rattle.std.specs.Option.{option_or}
+use Rattle.cs_types.specs.Names.{is_same}
 use Rattle.cs_schema.specs.Tables.{next_place}
 
 -- the item of a table, of two the later
 abbrev pub item_of : List ℕ → List Watched → Option Watched
 item_of table [] = None
-item_of table (w ∷ ws) = or_this (item_of table ws) (cond (is_same w.table table) (Some w) None)
+item_of table (w ∷ ws) = option_or (item_of table ws) (cond (is_same w.table table) (Some w) None)
 
 -- the place of the item of a table
 abbrev pub place_of : List ℕ → List Watched → Option ℕ
 place_of table [] = None
-place_of table (w ∷ ws) = or_this (next_place (place_of table ws)) (cond (is_same w.table table) (Some 0) None)
+place_of table (w ∷ ws) = option_or (next_place (place_of table ws)) (cond (is_same w.table table) (Some 0) None)
 
 -- the map has of each table the place of its item
 abbrev pub ItemPlaces : List Watched → BTreeMap (List ℕ) ℕ → Type 0

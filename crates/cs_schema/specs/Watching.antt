@@ -6,8 +6,8 @@ use Rattle.cs_schema.specs.declared.types.Watched.{Watched}
 use Rattle.cs_schema.specs.declared.types.Watch.{Watch}
 use Rattle.cs_schema.specs.declared.types.Watch.TheVariants.{Nothing, All, Tables}
 use Rattle.cs_schema.specs.declared.types.Stream.{Stream}
-use Rattle.cs_schema.specs.Names.{is_same, is_among}
-use Rattle.cs_schema.specs.Tables.{table_named}
+use Rattle.cs_types.specs.Names.{is_same, is_among}
+use Rattle.cs_schema.specs.Tables.{table_named, column_names}
 use Rattle.cs_schema.specs.WatchList.{item_of}
 
 -- a list of columns has its own, no list has all
@@ -36,21 +36,29 @@ abbrev pub key_of : Option Table → List (List ℕ)
 key_of None = []
 key_of (Some t) = t.key
 
--- whether one of these columns is watched and no key column
-abbrev pub watches_one : Watch → List ℕ → List (List ℕ) → List (List ℕ) → Bool
-watches_one watch table key [] = false
-watches_one watch table key (c ∷ cs) = cond (watches_column watch table c && not (is_among c key)) true (watches_one watch table key cs)
+-- whether a name is that of a column of the table which is watched and no key column
+abbrev pub is_watched_column : Watch → Table → List ℕ → Bool
+is_watched_column watch t column = watches_column watch t.name column && is_among column (column_names t.columns) && not (is_among column t.key)
 
--- whether no column is named, or one that is watched and no key column
-abbrev pub watches_named : Watch → List ℕ → List (List ℕ) → List (List ℕ) → Bool
-watches_named watch table key [] = true
-watches_named watch table key (c ∷ cs) = watches_one watch table key (c ∷ cs)
+-- whether one of these columns is
+abbrev pub watches_one : Watch → Table → List (List ℕ) → Bool
+watches_one watch t [] = false
+watches_one watch t (c ∷ cs) = cond (is_watched_column watch t c) true (watches_one watch t cs)
 
--- whether a stream watches a change of a table that names these columns
+-- whether no column is named, or one that is
+abbrev pub watches_named : Watch → Table → List (List ℕ) → Bool
+watches_named watch t [] = true
+watches_named watch t (c ∷ cs) = watches_one watch t (c ∷ cs)
+
+abbrev pub watches_in : Watch → Option Table → List (List ℕ) → Bool
+watches_in watch None columns = false
+watches_in watch (Some t) columns = watches_table watch t.name && watches_named watch t columns
+
+-- whether a stream watches a change of a table that is there and that names these columns
 abbrev pub watches_change : List Table → Watch → List ℕ → List (List ℕ) → Bool
-watches_change tables watch table columns = watches_table watch table && watches_named watch table (key_of (table_named table tables)) columns
+watches_change tables watch table columns = watches_in watch (table_named table tables) columns
 
--- how many of the streams watch a column
+-- how many of the streams watch a column, or will once the table has it
 abbrev pub watchers : List Stream → List ℕ → List ℕ → ℕ
 watchers [] table column = 0
 watchers (s ∷ ss) table column = cond (watches_column s.watch table column) (suc (watchers ss table column)) (watchers ss table column)

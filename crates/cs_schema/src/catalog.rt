@@ -1,29 +1,44 @@
 ghost use Rattle.std.specs.Prelude.{◌≡◌, [], ◌∷◌, ◌++◌, Some, None, false, MatchResult, IfOk, OnOk, OnErr};
 ghost use Rattle.std.specs.Str.Lossy.{utf8_lossy};
 ghost use Rattle.cs_schema.specs.Faults.{not_memory};
-ghost use Rattle.cs_schema.specs.Tables.{with_column, table_named};
+ghost use Rattle.cs_schema.specs.Tables.{with_column};
 ghost use Rattle.cs_schema.specs.Lengths.{column_made};
 ghost use Rattle.cs_schema.specs.Making.{table_made, table_fault, column_fault};
 ghost use Rattle.cs_schema.specs.Streaming.{watch_made, stream_made, stream_fault};
-ghost use Rattle.cs_schema.specs.Watching.{watches_change, key_of};
+ghost use Rattle.cs_schema.specs.Watching.{watches_in, watches_change};
 ghost use Rattle.cs_schema.specs.Applying.{first_fault, applied};
+ghost use Rattle.cs_schema.specs.Growing.{Grows};
+ghost use Rattle.cs_schema.specs.Sound.{IsSoundCatalog};
 
 use crate::lengths::{column, columns};
 use crate::making::{check_column, check_table};
 use crate::names::{text, texts};
 use crate::streaming::{check_stream, stream};
 use crate::watching::named_watched;
-use crate::{SchemaFault, Stream, Table, Tables};
+use crate::{SchemaFault, Stream, Table, Tables, Watch};
 use cs_ddl::{ColumnTree, OptionTree, Statement, TypeTree, WatchTree, Word};
 use cs_types::{Items, Memory, Stamp, Text};
 use std::alloc::Global;
+use std::marker::Model;
 
 /// The tables and the change streams of a database, each in the order of their making. Tables and
-/// streams have names of their own: a table and a stream may have the same.
+/// streams have names of their own: a table and a stream may have the same. What it holds is sound:
+/// each statement that would break this is refused.
 #[derive(Drop)]
 pub struct Catalog {
     tables: Tables,
     streams: Items<Stream>,
+}
+
+impl Model for Catalog {
+    ghost use Rattle.cs_schema.specs.Schema.{Schema};
+    ghost use Rattle.cs_schema.specs.Sound.{IsSoundCatalog};
+
+    ghost Value = { Schema };
+
+    ghost view = { λ c. record { tables = c.tables; streams = c.streams } };
+
+    ghost invariant = { λ c. IsSoundCatalog c.tables c.streams };
 }
 
 impl Catalog {
@@ -40,14 +55,16 @@ impl Catalog {
 
     /// The tables in the order of their making.
     pub fn tables(&self) -> &Tables
-        ensures { result.now ≡ self.now.tables }
+        ensures value { result.now ≡ self.now.tables }
+        ensures sound { IsSoundCatalog self.now.tables self.now.streams }
     {
         &self.tables
     }
 
     /// The streams in the order of their making.
     pub fn streams(&self) -> &[Stream]
-        ensures { result.now ≡ self.now.streams }
+        ensures value { result.now ≡ self.now.streams }
+        ensures sound { IsSoundCatalog self.now.tables self.now.streams }
     {
         self.streams.as_slice()
     }
@@ -59,6 +76,7 @@ impl Catalog {
         ensures refused { MatchResult result (λ _. first_fault self.old statement.now ≡ None) (λ e. not_memory e → first_fault self.old statement.now ≡ Some e) }
         ensures ok { OnOk result (self.new ≡ applied self.old at statement.now) }
         ensures err { OnErr result (self.new ≡ self.old) }
+        ensures grows { OnOk result (Grows self.old.tables self.new.tables) }
     {
         match statement {
             Statement::CreateTable { name, columns, key } => {
@@ -145,24 +163,24 @@ impl Catalog {
 }
 
 impl Stream {
-    /// Whether the stream watches a change of a table that names these columns: it watches the
-    /// table, and either no column is named or a watched one that is no key column. It takes no
-    /// memory.
+    /// Whether the stream watches a change of a table that names these columns: the table is there
+    /// and watched, and either no column is named or a watched one of the table that is no key
+    /// column. It takes no memory.
     pub fn watches(&self, catalog: &Catalog, table: &Text, columns: &[Text]) -> bool
         ensures { result ≡ watches_change catalog.now.tables self.now.watch table.now columns.now }
     {
-        if !self.watch.has_table(table) {
-            return false;
+        match catalog.tables.find(table) {
+            None => false,
+            Some(found) => change_watched(&self.watch, found, columns),
         }
-        named_watched(&self.watch, table, key(catalog, table), columns)
     }
 }
 
-fn key<'a>(catalog: &'a Catalog, table: &Text) -> &'a [Text]
-    ensures { result.now ≡ key_of (table_named table.now catalog.now.tables) }
+fn change_watched(watch: &Watch, table: &Table, columns: &[Text]) -> bool
+    ensures { result ≡ watches_in watch.now (Some table.now) columns.now }
 {
-    match catalog.tables.find(table) {
-        Some(found) => found.key.as_slice(),
-        None => &[],
+    if watch.has_table(&table.name) {
+        return named_watched(watch, table, columns);
     }
+    false
 }

@@ -42,6 +42,7 @@ fn length(digits: &[u8], most: u32) -> Option<u32>
     Some(number)
 }
 
+#[tactic(auto, using(crate::proofs::Decimals::length_is))]
 fn size(size: &Size, most: u32) -> Option<u32>
     requires { most ≤ 10485760 }
     ensures { result ≡ size_of most size.now }

@@ -3,6 +3,7 @@
 
 mod catalog;
 mod fault;
+mod laws;
 mod lengths;
 mod making;
 mod names;
@@ -15,11 +16,9 @@ mod watch_list;
 mod watching;
 
 pub use catalog::Catalog;
+pub use cs_types::Names;
 pub use fault::SchemaFault;
-pub use names::Names;
+pub use laws::{retentions_are_read, tables_are_found};
 pub use tables::Tables;
 pub use types::{Column, Stream, Table, Watch, Watched};
 pub use watch_list::WatchList;
-
-#[cfg(test)]
-mod tests;

@@ -1,13 +1,15 @@
 ghost use Rattle.std.specs.Prelude.{◌≡◌, [], Some, None, MatchResult, IfOk};
-ghost use Rattle.cs_schema.specs.Faults.{not_memory, first_of, no_column, twice_fault};
-ghost use Rattle.cs_schema.specs.Making.{column_names, crowded, many_fault, tree_fault, table_fault, added_fault, column_fault};
+ghost use Rattle.cs_schema.specs.Faults.{not_memory, no_column, twice_fault};
+ghost use Rattle.cs_types.specs.Firsts.{first_of};
+ghost use Rattle.cs_schema.specs.Making.{crowded, many_fault, tree_fault, table_fault, added_fault, column_fault};
+ghost use Rattle.cs_schema.specs.Tables.{column_names};
 
 use crate::lengths::check_length;
 use crate::names::again;
 use crate::watching::count_watchers;
-use crate::{Column, Names, SchemaFault, Stream, Table, Tables};
+use crate::{Column, SchemaFault, Stream, Table, Tables};
 use cs_ddl::{ColumnTree, TypeTree};
-use cs_types::{Duplicate, Items, Memory, Text};
+use cs_types::{Duplicate, Items, Memory, Names, Text};
 use std::alloc::Global;
 
 /// The most columns of a table.

@@ -1,14 +1,15 @@
 ghost use Rattle.std.specs.Prelude.{◌≡◌, ◌≤◌, ◌==◌, [], Some, None, MatchResult};
 ghost use Rattle.std.specs.Cmp.Lexicographic.{pointwise};
-ghost use Rattle.cs_schema.specs.Faults.{not_memory, first_of};
-ghost use Rattle.cs_schema.specs.Options.{is_text, hours as hours_of, days as days_of, unit_of, retention_from, or_no_retention, capture_text, capture_setting, retention_setting, is_exclusion, setting_of, wrong_fault, option_fault, retention_if, retention_fault, built_if, built_fault, capture_after, capture_set, retention_after, retention_set};
+ghost use Rattle.cs_schema.specs.Faults.{not_memory};
+ghost use Rattle.cs_types.specs.Firsts.{first_of};
+ghost use Rattle.cs_schema.specs.Options.{is_text, hours as hours_of, days as days_of, unit_of, retention_from, or_no_retention, capture_of_text, capture_setting, retention_setting, is_exclusion, setting_of, wrong_fault, option_fault, retention_if, retention_fault, built_if, built_fault, capture_after, capture_set, retention_after, retention_set};
 
 use crate::SchemaFault;
 use crate::lengths::is_digit;
-use crate::names::{among, text};
+use crate::names::text;
 use crate::setting::Setting;
 use cs_ddl::{OptionTree, OptionValue, Word};
-use cs_types::{CaptureType, Items, Text};
+use cs_types::{CaptureType, Items, Text, is_among};
 use std::alloc::Global;
 
 /// The most hours of a retention.
@@ -97,7 +98,7 @@ fn retention_or_none(text: &[u8]) -> Setting
 }
 
 fn capture(text: &Word) -> Setting
-    ensures { result ≡ capture_text text.now }
+    ensures { result ≡ capture_of_text text.now }
 {
     if is_word(text, b"OLD_AND_NEW_VALUES") {
         return Setting::Capture(CaptureType::OldAndNewValues);
@@ -185,7 +186,7 @@ pub(crate) fn check_options(alloc: Global, options: &[OptionTree]) -> Result<(),
     let mut seen = Items::new(alloc);
     for option in options {
         let name = text(alloc, &option.name)?;
-        if among(&name, seen.as_slice()) {
+        if is_among(&name, seen.as_slice()) {
             return Err(SchemaFault::BadOption(name));
         }
         let name = check_right(setting(option), name)?;

@@ -1,15 +1,16 @@
 ghost use Rattle.std.specs.Prelude.{◌≡◌, [], Some, None, MatchResult, IfOk};
-ghost use Rattle.cs_schema.specs.Faults.{not_memory, first_of};
+ghost use Rattle.cs_schema.specs.Faults.{not_memory};
+ghost use Rattle.cs_types.specs.Firsts.{first_of};
 ghost use Rattle.cs_schema.specs.Streaming.{list_made, items_made, tree_made, watch_made, stream_made, no_table, unknown_listed, is_key, key_listed, listed as listed_of, twice_listed, crowded_table, crowded_part, crowded_item, items_of, tables_of, item_twice, crowded_watch, is_stream, items_fault, options_fault, stream_fault};
 
 use crate::making::{check_crowds, check_once, check_there, names_of_columns};
-use crate::names::{again, same, text, texts};
+use crate::names::{again, text, texts};
 use crate::options::{
     check_all_built, check_options, check_retentions, chosen_capture, chosen_retention,
 };
-use crate::{Names, SchemaFault, Stream, Table, Tables, Watch, WatchList, Watched};
+use crate::{SchemaFault, Stream, Table, Tables, Watch, WatchList, Watched};
 use cs_ddl::{OptionTree, Run, WatchItem, WatchTree, Word};
-use cs_types::{Duplicate, Items, Memory, Stamp, Text};
+use cs_types::{Duplicate, Items, Memory, Names, Stamp, Text};
 use std::alloc::Global;
 
 /// The most streams of a catalog.
@@ -299,7 +300,7 @@ fn stream_named(streams: &[Stream], name: &Text) -> bool
     ensures { result ≡ is_stream name.now streams.now }
 {
     for stream in streams {
-        if same(&stream.name, name) {
+        if stream.name.is(name) {
             return true;
         }
     }

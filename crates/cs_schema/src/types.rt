@@ -1,5 +1,5 @@
-use crate::{Names, WatchList};
-use cs_types::{CaptureType, ColumnType, Items, Stamp, Text};
+use crate::WatchList;
+use cs_types::{CaptureType, ColumnType, Items, Names, Stamp, Text};
 
 /// A column of a table.
 #[derive(Debug, Drop)]

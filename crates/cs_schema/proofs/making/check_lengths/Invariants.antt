@@ -1,5 +1,5 @@
 use Rattle.std.proofs.Common.{◌≡◌, drop}
-use Rattle.cs_schema.specs.Faults.{first_of}
+use Rattle.cs_types.specs.Firsts.{first_of}
 use Rattle.cs_schema.specs.Making.{tree_fault}
 use Rattle.cs_schema.proofs.making.check_lengths.Given as goal
 

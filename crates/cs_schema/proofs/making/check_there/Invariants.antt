@@ -1,5 +1,6 @@
 use Rattle.std.proofs.Common.{◌≡◌, drop}
-use Rattle.cs_schema.specs.Faults.{first_of, no_column}
+use Rattle.cs_schema.specs.Faults.{no_column}
+use Rattle.cs_types.specs.Firsts.{first_of}
 use Rattle.cs_schema.proofs.making.check_there.Given as goal
 
 abbrev pub invariant-loop-name : goal.invariant-loop-name

@@ -1,5 +1,5 @@
 use Rattle.std.proofs.Common.{rules, ◌≡◌, ◌∙◌, sym, ap, true, false, take, Some}
-use Rattle.cs_schema.specs.Names.{is_among}
+use Rattle.cs_types.specs.Names.{is_among}
 use Rattle.cs_schema.proofs.Again.{names_step, again_step, again_here}
 use Rattle.cs_schema.proofs.names.again.Goals as goal
 

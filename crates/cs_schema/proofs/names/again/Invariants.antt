@@ -1,5 +1,5 @@
 use Rattle.std.proofs.Common.{◌≡◌, drop, take, []}
-use Rattle.cs_schema.specs.Names.{first_again, HoldsNames}
+use Rattle.cs_types.specs.Names.{first_again, HoldsNames}
 use Rattle.cs_schema.proofs.names.again.Given as goal
 
 abbrev pub invariant-loop-name : goal.invariant-loop-name

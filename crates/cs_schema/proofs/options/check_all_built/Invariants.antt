@@ -1,5 +1,5 @@
 use Rattle.std.proofs.Common.{◌≡◌, drop}
-use Rattle.cs_schema.specs.Faults.{first_of}
+use Rattle.cs_types.specs.Firsts.{first_of}
 use Rattle.cs_schema.specs.Options.{built_fault}
 use Rattle.cs_schema.proofs.options.check_all_built.Given as goal
 

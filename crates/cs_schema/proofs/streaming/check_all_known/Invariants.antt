@@ -1,5 +1,5 @@
 use Rattle.std.proofs.Common.{◌≡◌, drop}
-use Rattle.cs_schema.specs.Faults.{first_of}
+use Rattle.cs_types.specs.Firsts.{first_of}
 use Rattle.cs_schema.specs.Streaming.{unknown_listed}
 use Rattle.cs_schema.proofs.streaming.check_all_known.Given as goal
 
