@@ -9,9 +9,9 @@ use Rattle.cs_types.specs.declared.value.Value.TheVariants.{Null}
 use Rattle.cs_types.specs.declared.cells.Cell.{Cell}
 use Rattle.cs_types.specs.declared.change.Kind.{Kind}
 use Rattle.cs_types.specs.declared.change.Kind.TheVariants.{Insert, Update, Delete}
-use Rattle.cs_schema.specs.Names.{is_same, is_among}
+use Rattle.cs_types.specs.Names.{is_same, is_among, columns_of}
 use Rattle.cs_txn.specs.Left.{found_in, or_null, or_under, value_over, cells_for, cells_or_none, row_cells, cells_left}
-use Rattle.cs_txn.specs.History.{columns_of, IsAllowed, AsItWas, Leaves}
+use Rattle.cs_txn.specs.History.{IsAllowed, AsItWas, Leaves}
 
 found_for : (column : List ℕ) (columns : List (List ℕ)) (set under : List Cell) → found_in column (cells_for columns set under) ≡ cond (is_among column columns) (Some (value_over column set under)) None
 found_for column [] set under = refl
@@ -29,7 +29,7 @@ unnamed column (c ∷ cs) e = at (is_same c.column column) e (unnamed column cs)
     at true e r = absurd (true≢false e)
     at false e r = r e
 
-columns_for : (columns : List (List ℕ)) (set under : List Cell) → columns_of (cells_for columns set under) ≡ columns
+pub columns_for : (columns : List (List ℕ)) (set under : List Cell) → columns_of (cells_for columns set under) ≡ columns
 columns_for [] set under = refl
 columns_for (c ∷ cs) set under = ap (λ l. c ∷ l) (columns_for cs set under)
 
@@ -47,12 +47,12 @@ updated : (columns : List (List ℕ)) (set under : List Cell) (column : List ℕ
 updated columns set under column e =
     found_for column columns set under ∙ ap (λ v. cond (is_among column columns) (Some v) None) (value_unnamed column set under e) ∙ sym (found_for column columns [] under)
 
-pub leaves : (columns : List (List ℕ)) (k : Kind) (set : List Cell) (s : Option (List Cell)) → IsAllowed k (is_some s) → Leaves k (columns_of set) (row_cells columns s) (cells_left columns k set s)
-leaves columns Insert set None h = (refl, inserted columns set)
-leaves columns Insert set (Some s) h = absurd (true≢false h)
-leaves columns Update set None h = absurd (true≢false (sym h))
-leaves columns Update set (Some s) h = (columns_for columns set s ∙ sym (columns_for columns [] s), updated columns set s)
-leaves columns Delete set s h = refl
+pub leaves : (columns : List (List ℕ)) (k : Kind) (set : List Cell) (s : Option (List Cell)) → IsAllowed k (is_some s) → ((name : List ℕ) → is_among name (columns_of set) ≡ true → is_among name columns ≡ true) → Leaves k (columns_of set) (row_cells columns s) (cells_left columns k set s)
+leaves columns Insert set None h n = (refl, inserted columns set, λ name i. ap (is_among name) (columns_for columns set []) ∙ n name i)
+leaves columns Insert set (Some s) h n = absurd (true≢false h)
+leaves columns Update set None h n = absurd (true≢false (sym h))
+leaves columns Update set (Some s) h n = (columns_for columns set s ∙ sym (columns_for columns [] s), updated columns set s, λ name i. ap (is_among name) (columns_for columns set s) ∙ n name i)
+leaves columns Delete set s h n = refl
 
 some_either : (b : Bool) (v w : Value) → cond b (Some v) None ≡ Some w → w ≡ v
 some_either true v w e = search rules

@@ -1,9 +1,15 @@
 pub mod Adding
+pub mod Checked
+pub mod Counted
+pub mod Fitting
 pub mod Kept
+pub mod Lasting
 pub mod Leaves
+pub mod OneDatabase
 pub mod Places
 pub mod RowLengths
 pub mod Searching
 pub mod Sound
 pub mod Steps
+pub mod Transactions
 pub mod Weights

@@ -15,7 +15,7 @@ use Rattle.cs_types.specs.declared.cells.Cell.{Cell}
 use Rattle.cs_types.specs.declared.value.Value.{Value}
 use Rattle.cs_types.specs.Cells.{IsRising}
 use Rattle.cs_types.specs.Value.{value_data}
-use Rattle.cs_schema.specs.Names.{or_this}
+use Rattle.std.specs.Option.{option_or}
 use Rattle.cs_txn.specs.Left.{found_in}
 use Rattle.cs_txn.specs.Sizes.{members_with, row_size}
 use Rattle.cs_txn.specs.Lengths.{member_length, members_length, object_length, cells_length, length_if, hidden_length}
@@ -120,26 +120,26 @@ abbrev data_of : Option Value → Option Data
 data_of None = None
 data_of (Some v) = Some (value_data v)
 
-pub stands_with : (q : List ℕ) (ms : Members) (cs : List Cell) → IsRising cs → stands q (members_with ms cs) ≡ or_this (data_of (found_in q cs)) (stands q ms)
+pub stands_with : (q : List ℕ) (ms : Members) (cs : List Cell) → IsRising cs → stands q (members_with ms cs) ≡ option_or (data_of (found_in q cs)) (stands q ms)
 unfolding IsStrictlySortedBy
 stands_with q ms [] r = refl
 stands_with q ms (c ∷ cs) r = stands_with q (put c.column (value_data c.value) ms) cs r.1 ∙ at (slice_cmp nat_cmp c.column q) refl
   where
     at : (o : Ordering) → slice_cmp nat_cmp c.column q ≡ o
-        → or_this (data_of (found_in q cs)) (stands q (put c.column (value_data c.value) ms)) ≡ or_this (data_of (cond (is_eq (slice_cmp nat_cmp c.column q)) (Some c.value) (found_in q cs))) (stands q ms)
+        → option_or (data_of (found_in q cs)) (stands q (put c.column (value_data c.value) ms)) ≡ option_or (data_of (cond (is_eq (slice_cmp nat_cmp c.column q)) (Some c.value) (found_in q cs))) (stands q ms)
     at Less is =
-        ap (or_this (data_of (found_in q cs))) (stands_above q c.column (value_data c.value) ms is)
-        ∙ ap (λ o. or_this (data_of o) (stands q ms)) (sym (not_it c cs q Less is refl))
+        ap (option_or (data_of (found_in q cs))) (stands_above q c.column (value_data c.value) ms is)
+        ∙ ap (λ o. option_or (data_of o) (stands q ms)) (sym (not_it c cs q Less is refl))
     at Greater is =
-        ap (or_this (data_of (found_in q cs))) (stands_below q c.column (value_data c.value) ms (reversed c.column q Greater is))
-        ∙ ap (λ o. or_this (data_of o) (stands q ms)) (sym (not_it c cs q Greater is refl))
+        ap (option_or (data_of (found_in q cs))) (stands_below q c.column (value_data c.value) ms (reversed c.column q Greater is))
+        ∙ ap (λ o. option_or (data_of o) (stands q ms)) (sym (not_it c cs q Greater is refl))
     at Equal is =
         let same : c.column ≡ q = exact_bytes c.column q is in
         let P : List ℕ → Type 0 = λ n. AllByRecursion (λ y. slice_cmp nat_cmp n y ≡ Less) (map (λ (d : Cell). d.column) cs) in
         let none : found_in q cs ≡ None = none_above q cs (subst P same r.0) in
-        ap (λ o. or_this (data_of o) (stands q (put c.column (value_data c.value) ms))) none
+        ap (λ o. option_or (data_of o) (stands q (put c.column (value_data c.value) ms))) none
         ∙ ap (λ n. stands n (put c.column (value_data c.value) ms)) (sym same) ∙ stands_there c.column (value_data c.value) ms
-        ∙ sym (ap (λ o. or_this (data_of (cond (is_eq o) (Some c.value) (found_in q cs))) (stands q ms)) is)
+        ∙ sym (ap (λ o. option_or (data_of (cond (is_eq o) (Some c.value) (found_in q cs))) (stands q ms)) is)
 
 abbrev replaced : Members → List Cell → ℕ
 replaced ms [] = 0
@@ -164,7 +164,7 @@ replaces_none : (cs : List Cell) → replaced no_members cs ≡ 0
 replaces_none [] = refl
 replaces_none (c ∷ cs) = let i = replaces_none cs in omega (arith, i)
 
-or_nothing : (name : List ℕ) (o : Option Value) → data_length name (or_this (data_of o) None) ≡ length_if name o
+or_nothing : (name : List ℕ) (o : Option Value) → data_length name (option_or (data_of o) None) ≡ length_if name o
 or_nothing name None = refl
 or_nothing name (Some v) = refl
 

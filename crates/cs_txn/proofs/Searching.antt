@@ -12,7 +12,7 @@ use Rattle.std.proofs.lemmas.Map.Lookups.{exact_bytes}
 use Rattle.cs_types.specs.declared.cells.Cell.{Cell}
 use Rattle.cs_types.specs.Cells.{IsRising}
 use Rattle.cs_schema.specs.declared.types.Column.{Column}
-use Rattle.cs_schema.specs.Names.{or_this}
+use Rattle.std.specs.Option.{option_or}
 use Rattle.cs_txn.specs.Columns.{column_named}
 use Rattle.cs_txn.specs.Left.{found_in}
 use Rattle.cs_txn.specs.Finding.{column_at, LeadsFrom}
@@ -83,11 +83,11 @@ found_at (c ∷ cs) q (suc i) x r lt e t =
     not_it c cs q Less (sym (ap (slice_cmp nat_cmp c.column) (exact_bytes x.column q t)) ∙ below_of c cs i x r.0 (omega (arith, lt)) e) refl
     ∙ found_at cs q i x r.1 (omega (arith, lt)) e t
 
-found_append : (q : List ℕ) (xs ys : List Cell) → found_in q (xs ++ ys) ≡ or_this (found_in q xs) (found_in q ys)
+found_append : (q : List ℕ) (xs ys : List Cell) → found_in q (xs ++ ys) ≡ option_or (found_in q xs) (found_in q ys)
 found_append q [] ys = refl
 found_append q (x ∷ xs) ys = at (is_eq (slice_cmp nat_cmp x.column q)) (found_append q xs ys)
   where
-    at : (b : Bool) → found_in q (xs ++ ys) ≡ or_this (found_in q xs) (found_in q ys) → cond b (Some x.value) (found_in q (xs ++ ys)) ≡ or_this (cond b (Some x.value) (found_in q xs)) (found_in q ys)
+    at : (b : Bool) → found_in q (xs ++ ys) ≡ option_or (found_in q xs) (found_in q ys) → cond b (Some x.value) (found_in q (xs ++ ys)) ≡ option_or (cond b (Some x.value) (found_in q xs)) (found_in q ys)
     at true r = refl
     at false r = r
 
@@ -95,4 +95,4 @@ pub found_nowhere : (cells : List Cell) (q : List ℕ) (low high : ℕ) → high
 found_nowhere cells q low high a b none rest =
     let level : low ≡ high = omega (arith, a, b) in
     ap (found_in q) (sym (take-append-drop low cells)) ∙ found_append q (take low cells) (drop low cells)
-    ∙ ap (λ o. or_this o (found_in q (drop low cells))) none ∙ ap (λ k. found_in q (drop k cells)) level ∙ rest
+    ∙ ap (λ o. option_or o (found_in q (drop low cells))) none ∙ ap (λ k. found_in q (drop k cells)) level ∙ rest

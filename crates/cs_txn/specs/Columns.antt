@@ -11,11 +11,15 @@ use Rattle.cs_types.specs.declared.change.Kind.{Kind}
 use Rattle.cs_types.specs.declared.change.Kind.TheVariants.{Insert, Update, Delete}
 use Rattle.cs_schema.specs.declared.types.Column.{Column}
 use Rattle.cs_schema.specs.declared.types.Table.{Table}
-use Rattle.cs_schema.specs.Names.{or_this, is_same, is_among}
+use Rattle.std.specs.Option.{option_or}
+use Rattle.cs_types.specs.Firsts.{first_of}
+use Rattle.cs_types.specs.Names.{is_same, is_among}
 use Rattle.cs_schema.specs.Tables.{table_named}
 use Rattle.cs_txn.specs.declared.txn.Write.{Write}
 use Rattle.cs_txn.specs.declared.fault.TxnFault.{TxnFault}
 use Rattle.cs_txn.specs.declared.fault.TxnFault.TheVariants.{BadValue, KeyColumnSet, NoTable, NoColumn}
+use Rattle.cs_txn.specs.declared.test.Test.{Test}
+use Rattle.cs_txn.specs.declared.test.Test.TheVariants.{Values, Set, Tables, Columns}
 use Rattle.cs_txn.specs.Left.{found_in}
 
 -- the column of a name
@@ -52,11 +56,6 @@ is_null _ = false
 abbrev pub fits : Column → Value → Bool
 fits c v = cond (is_null v) (not c.not_null) (is_of c.ty c.limit v)
 
--- the first cell's fault
-abbrev pub first_cell : (Cell → Option TxnFault) → List Cell → Option TxnFault
-first_cell f [] = None
-first_cell f (c ∷ cs) = or_this (f c) (first_cell f cs)
-
 abbrev pub misfit : Option Column → Cell → Option TxnFault
 misfit None cell = None
 misfit (Some column) cell = cond (fits column cell.value) None (Some (BadValue cell.column))
@@ -82,14 +81,14 @@ unset_by Delete t set = None
 
 -- a write with a value that may not stand in its column: of its key, then of the cells that it sets, then the NULL of one that an INSERT does not name
 abbrev pub bad_value : Table → Write → Option TxnFault
-bad_value t w = or_this (first_cell (value_fault t.columns) w.row.key) (or_this (first_cell (value_fault t.columns) w.set) (unset_by w.kind t w.set))
+bad_value t w = option_or (first_of (value_fault t.columns) w.row.key) (option_or (first_of (value_fault t.columns) w.set) (unset_by w.kind t w.set))
 
 abbrev pub key_cell : List (List ℕ) → Cell → Option TxnFault
 key_cell key c = cond (is_among c.column key) (Some (KeyColumnSet c.column)) None
 
 -- a write that sets a key column
 abbrev pub key_set : Table → Write → Option TxnFault
-key_set t w = first_cell (key_cell t.key) w.set
+key_set t w = first_of (key_cell t.key) w.set
 
 abbrev pub no_such : List Column → Cell → Option TxnFault
 no_such columns c = cond (is_some (column_named c.column columns)) None (Some (NoColumn c.column))
@@ -104,21 +103,26 @@ key_without cells (k ∷ ks) = cond (is_some (found_in k cells)) (key_without ce
 
 -- a write that sets what is no column, or whose row has not just the table's key columns
 abbrev pub no_column : Table → Write → Option TxnFault
-no_column t w = or_this (first_cell (no_such t.columns) w.set) (or_this (first_cell (no_key t.key) w.row.key) (key_without w.row.key t.key))
+no_column t w = option_or (first_of (no_such t.columns) w.set) (option_or (first_of (no_key t.key) w.row.key) (key_without w.row.key t.key))
 
--- of a write's table, where it is there
-abbrev pub in_table : (Table → Write → Option TxnFault) → Option Table → Write → Option TxnFault
-in_table f None w = None
-in_table f (Some t) w = f t w
+-- what a test finds in a write whose table is there
+abbrev pub fault_in : Test → Table → Write → Option TxnFault
+fault_in Values t w = bad_value t w
+fault_in Set t w = key_set t w
+fault_in Tables t w = None
+fault_in Columns t w = no_column t w
 
-abbrev pub bad_fault : List Table → Write → Option TxnFault
-bad_fault tables w = in_table bad_value (table_named w.row.table tables) w
+-- and in one whose table is not there
+abbrev pub fault_without : Test → Write → Option TxnFault
+fault_without Values w = None
+fault_without Set w = None
+fault_without Tables w = Some (NoTable w.row.table)
+fault_without Columns w = None
 
-abbrev pub key_fault : List Table → Write → Option TxnFault
-key_fault tables w = in_table key_set (table_named w.row.table tables) w
+abbrev pub fault_at : Test → Option Table → Write → Option TxnFault
+fault_at test None w = fault_without test w
+fault_at test (Some t) w = fault_in test t w
 
-abbrev pub table_fault : List Table → Write → Option TxnFault
-table_fault tables w = cond (is_some (table_named w.row.table tables)) None (Some (NoTable w.row.table))
-
-abbrev pub column_fault : List Table → Write → Option TxnFault
-column_fault tables w = in_table no_column (table_named w.row.table tables) w
+-- what a test finds in a write
+abbrev pub fault_by : Test → List Table → Write → Option TxnFault
+fault_by test tables w = fault_at test (table_named w.row.table tables) w

@@ -6,25 +6,22 @@ use Rattle.cs_types.specs.Row.{row_cmp, same_row}
 use Rattle.cs_types.specs.declared.change.RowName.{RowName}
 use Rattle.cs_types.specs.declared.change.Kind.{Kind}
 use Rattle.cs_types.specs.declared.change.Kind.TheVariants.{Insert, Update, Delete}
-use Rattle.cs_schema.specs.Names.{or_this}
+use Rattle.std.specs.Option.{option_or}
 use Rattle.cs_schema.specs.declared.types.Table.{Table}
 use Rattle.cs_txn.specs.declared.txn.Write.{Write}
 use Rattle.cs_txn.specs.declared.txn.Txn.{Txn}
 use Rattle.cs_txn.specs.declared.txn.Modification.{Modification}
 use Rattle.cs_txn.specs.declared.fault.TxnFault.{TxnFault}
 use Rattle.cs_txn.specs.declared.fault.TxnFault.TheVariants.{IdUsed, StampBack, RowTwice, RowThere, NoRow, SharedStampRow, Memory}
-use Rattle.cs_txn.specs.Columns.{bad_fault, key_fault, table_fault, column_fault}
+use Rattle.cs_txn.specs.declared.test.Test.TheVariants.{Values, Set, Tables, Columns}
+use Rattle.cs_txn.specs.Columns.{fault_by}
 use Rattle.cs_txn.specs.History.{last_of, state_before, is_used, last_stamp}
+use Rattle.cs_types.specs.Firsts.{first_of}
 
 -- any fault but want of memory
 abbrev pub not_memory : TxnFault → Type 0
 not_memory Memory = ⊥
 not_memory _ = Unit {0}
-
--- the first write's fault
-abbrev pub first_of : (Write → Option TxnFault) → List Write → Option TxnFault
-first_of f [] = None
-first_of f (w ∷ ws) = or_this (f w) (first_of f ws)
 
 -- whether one of these writes names the row
 abbrev pub is_named : RowName → List Write → Bool
@@ -75,18 +72,18 @@ back_fault ms stamp = cond (nat_lt stamp (last_stamp ms)) (Some StampBack) None
 -- the refusals of ids, stamps and rows, in their order
 abbrev pub row_fault : List Modification → Txn → Option TxnFault
 row_fault ms txn =
-    or_this (id_fault ms txn.tx)
-    (or_this (back_fault ms txn.stamp)
-    (or_this (twice_behind [] txn.writes)
-    (or_this (first_of (there_fault ms) txn.writes)
+    option_or (id_fault ms txn.tx)
+    (option_or (back_fault ms txn.stamp)
+    (option_or (twice_behind [] txn.writes)
+    (option_or (first_of (there_fault ms) txn.writes)
     (first_of (absent_fault ms) txn.writes))))
 
 -- the refusals up to those of sizes, in their order
 abbrev pub write_fault : List Table → List Modification → Txn → Option TxnFault
 write_fault tables ms txn =
-    or_this (row_fault ms txn)
-    (or_this (first_of (bad_fault tables) txn.writes)
-    (or_this (first_of (key_fault tables) txn.writes)
-    (or_this (first_of (shared_fault ms txn.stamp) txn.writes)
-    (or_this (first_of (table_fault tables) txn.writes)
-    (first_of (column_fault tables) txn.writes)))))
+    option_or (row_fault ms txn)
+    (option_or (first_of (fault_by Values tables) txn.writes)
+    (option_or (first_of (fault_by Set tables) txn.writes)
+    (option_or (first_of (shared_fault ms txn.stamp) txn.writes)
+    (option_or (first_of (fault_by Tables tables) txn.writes)
+    (first_of (fault_by Columns tables) txn.writes)))))

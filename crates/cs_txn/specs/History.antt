@@ -11,7 +11,8 @@ use Rattle.cs_types.specs.declared.change.RowName.{RowName}
 use Rattle.cs_types.specs.declared.change.Kind.{Kind}
 use Rattle.cs_types.specs.declared.change.Kind.TheVariants.{Insert, Update, Delete}
 use Rattle.cs_types.specs.Row.{same_row}
-use Rattle.cs_schema.specs.Names.{or_this, is_among}
+use Rattle.std.specs.Option.{option_or}
+use Rattle.cs_types.specs.Names.{is_among, columns_of}
 use Rattle.cs_schema.specs.declared.types.Table.{Table}
 use Rattle.cs_txn.specs.declared.txn.Write.{Write}
 use Rattle.cs_txn.specs.declared.txn.Txn.{Txn}
@@ -21,7 +22,7 @@ use Rattle.cs_txn.specs.Left.{free_columns_of, row_cells, cells_left, cells_or_n
 -- the last modification of a row
 abbrev pub last_of : RowName → List Modification → Option Modification
 last_of row [] = None
-last_of row (m ∷ ms) = or_this (last_of row ms) (cond (same_row m.row row) (Some m) None)
+last_of row (m ∷ ms) = option_or (last_of row ms) (cond (same_row m.row row) (Some m) None)
 
 -- the cells that a modification leaves: no row behind a DELETE
 abbrev pub left_by : Kind → List Cell → Option (List Cell)
@@ -50,11 +51,6 @@ stamp_behind stamp (m ∷ ms) = stamp_behind m.stamp ms
 -- the stamp of the last modification, 0 before the first
 abbrev pub last_stamp : List Modification → ℕ
 last_stamp ms = stamp_behind 0 ms
-
--- the columns that a cell stands for
-abbrev pub columns_of : List Cell → List (List ℕ)
-columns_of [] = []
-columns_of (c ∷ cs) = c.column ∷ columns_of cs
 
 -- what a write of a transaction does to its row
 abbrev pub modification_of : List Table → List Modification → Txn → Write → Modification
@@ -87,6 +83,11 @@ abbrev pub id_behind : List ℕ → List Modification → List ℕ
 id_behind id [] = id
 id_behind id (m ∷ ms) = id_behind m.tx ms
 
+-- the tag of the last modification, or this one where there is none
+abbrev pub tag_behind : List ℕ → List Modification → List ℕ
+tag_behind tag [] = tag
+tag_behind tag (m ∷ ms) = tag_behind m.tag ms
+
 -- an INSERT needs an absent row, the others a present one
 abbrev pub IsAllowed : Kind → Bool → Type 0
 IsAllowed Insert present = present ≡ false
@@ -105,18 +106,22 @@ NullBut named after = (column : List ℕ) → is_among column named ≡ false �
 abbrev pub KeptBut : List (List ℕ) → List Cell → List Cell → Type 0
 KeptBut named before after = (column : List ℕ) → is_among column named ≡ false → found_in column after ≡ found_in column before
 
--- an INSERT finds nothing and leaves NULL in columns that it does not name, an UPDATE keeps them, a DELETE leaves nothing
+-- each column that is named has a cell
+abbrev pub HasNamed : List (List ℕ) → List Cell → Type 0
+HasNamed named after = (column : List ℕ) → is_among column named ≡ true → is_among column (columns_of after) ≡ true
+
+-- an INSERT finds nothing, gives the columns that it names a cell and leaves NULL in the others; an UPDATE gives no column a cell that had none, and keeps those that it does not name; a DELETE leaves nothing
 abbrev pub Leaves : Kind → List (List ℕ) → List Cell → List Cell → Type 0
-Leaves Insert named before after = (before ≡ []) × NullBut named after
-Leaves Update named before after = (columns_of after ≡ columns_of before) × KeptBut named before after
+Leaves Insert named before after = (before ≡ []) × NullBut named after × HasNamed named after
+Leaves Update named before after = (columns_of after ≡ columns_of before) × KeptBut named before after × HasNamed named after
 Leaves Delete named before after = after ≡ []
 
 -- a modification against those before it
 pub record Follows (earlier : List Modification) (m : Modification) : Type 0 where
   -- stamps do not fall
   pub stamp : last_stamp earlier ≤ m.stamp
-  -- an id that stands before is that of the transaction that goes on
-  pub id : is_used m.tx earlier ≡ true → (id_behind [] earlier ≡ m.tx) × (last_stamp earlier ≡ m.stamp)
+  -- an id that stands before is that of the transaction that goes on, with its stamp and its tag
+  pub id : is_used m.tx earlier ≡ true → (id_behind [] earlier ≡ m.tx) × (last_stamp earlier ≡ m.stamp) × (tag_behind [] earlier ≡ m.tag)
   -- no transaction writes a row twice, and two of one stamp share no row
   pub row : wrote_at m.stamp m.row earlier ≡ false
   pub kind : IsAllowed m.kind (is_some (state_before earlier m.row))

@@ -11,7 +11,7 @@ use Rattle.cs_types.specs.declared.change.Kind.{Kind}
 use Rattle.cs_types.specs.declared.change.Kind.TheVariants.{Insert, Update, Delete}
 use Rattle.cs_schema.specs.declared.types.Column.{Column}
 use Rattle.cs_schema.specs.declared.types.Table.{Table}
-use Rattle.cs_schema.specs.Names.{is_same, is_among}
+use Rattle.cs_types.specs.Names.{is_same, is_among}
 use Rattle.cs_schema.specs.Tables.{table_named}
 
 -- these names, and those of the columns that are no key columns, each once and in byte order

@@ -1,6 +1,8 @@
 pub mod Columns
+pub mod Digests
 pub mod Faults
 pub mod Finding
+pub mod Fits
 pub mod History
 pub mod Left
 pub mod Lengths

@@ -5,21 +5,22 @@ use Rattle.std.specs.Ordering.{nat_cmp}
 use Rattle.std.specs.Cmp.Lexicographic.{slice_cmp}
 use Rattle.std.specs.BTreeMap.{BTreeMap, get}
 use Rattle.cs_types.specs.declared.change.RowName.{RowName}
-use Rattle.cs_types.specs.Row.{row_cmp, same_row}
-use Rattle.cs_schema.specs.Names.{or_this}
+use Rattle.cs_types.specs.Row.{same_row}
+use Rattle.std.specs.Option.{option_or}
 use Rattle.cs_schema.specs.Tables.{next_place, flat}
 use Rattle.cs_txn.specs.declared.txn.Write.{Write}
 use Rattle.cs_txn.specs.declared.txn.Modification.{Modification}
+use Rattle.cs_txn.specs.Digests.{digest_cmp}
 use Rattle.cs_txn.specs.History.{is_used}
 
 -- the place of the last modification of a row
 abbrev pub last_place : RowName → List Modification → Option ℕ
 last_place row [] = None
-last_place row (m ∷ ms) = or_this (next_place (last_place row ms)) (cond (same_row m.row row) (Some 0) None)
+last_place row (m ∷ ms) = option_or (next_place (last_place row ms)) (cond (same_row m.row row) (Some 0) None)
 
 -- the map has of each row the place of its last modification; a row may stand in it with nothing
 abbrev pub PlacesOf : List Modification → BTreeMap RowName (Option ℕ) → Type 0
-PlacesOf ms rows = (row : RowName) → flat (get row_cmp rows row) ≡ last_place row ms
+PlacesOf ms rows = (row : RowName) → flat (get digest_cmp rows row) ≡ last_place row ms
 
 -- what stands at a place, if there is one
 abbrev pub standing : List Modification → Option ℕ → Option Modification
@@ -31,10 +32,15 @@ abbrev pub lasts_of : List Modification → List Write → List (Option ℕ)
 lasts_of ms [] = []
 lasts_of ms (w ∷ ws) = last_place w.row ms ∷ lasts_of ms ws
 
--- the like, as the map has it
-abbrev pub lasts_in : BTreeMap RowName (Option ℕ) → List Write → List (Option ℕ)
+-- the rows of writes
+abbrev pub rows_of : List Write → List RowName
+rows_of [] = []
+rows_of (w ∷ ws) = w.row ∷ rows_of ws
+
+-- for each row the place that the map has
+abbrev pub lasts_in : BTreeMap RowName (Option ℕ) → List RowName → List (Option ℕ)
 lasts_in rows [] = []
-lasts_in rows (w ∷ ws) = flat (get row_cmp rows w.row) ∷ lasts_in rows ws
+lasts_in rows (r ∷ rs) = flat (get digest_cmp rows r) ∷ lasts_in rows rs
 
 abbrev pub place_at : List (Option ℕ) → ℕ → Option ℕ
 place_at lasts i = flat (slice_get lasts i)
@@ -44,6 +50,6 @@ abbrev pub IdsOf : List Modification → BTreeMap (List ℕ) (Unit {0}) → Type
 IdsOf ms ids = (id : List ℕ) → is_some (get (slice_cmp nat_cmp) ids id) ≡ is_used id ms
 
 -- each of the rows has a place in the map
-abbrev pub HaveRoom : BTreeMap RowName (Option ℕ) → List Modification → Type 0
+abbrev pub HaveRoom : BTreeMap RowName (Option ℕ) → List RowName → Type 0
 HaveRoom rows [] = Unit {0}
-HaveRoom rows (m ∷ ms) = IsSome (get row_cmp rows m.row) × HaveRoom rows ms
+HaveRoom rows (r ∷ rs) = IsSome (get digest_cmp rows r) × HaveRoom rows rs

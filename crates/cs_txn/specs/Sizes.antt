@@ -7,7 +7,8 @@ use Rattle.cs_types.specs.Value.{value_data}
 use Rattle.cs_types.specs.declared.cells.Cell.{Cell}
 use Rattle.cs_types.specs.declared.change.Kind.{Kind}
 use Rattle.cs_types.specs.declared.change.Kind.TheVariants.{Insert, Update, Delete}
-use Rattle.cs_schema.specs.Names.{or_this}
+use Rattle.std.specs.Option.{option_or}
+use Rattle.cs_types.specs.Firsts.{first_of}
 use Rattle.cs_schema.specs.declared.types.Table.{Table}
 use Rattle.cs_txn.specs.declared.txn.Txn.{Txn}
 use Rattle.cs_txn.specs.declared.txn.Modification.{Modification}
@@ -53,10 +54,6 @@ history_limit = 134217728
 abbrev pub large_fault : Modification → Option TxnFault
 large_fault m = cond (nat_lt row_limit (size_after m.kind m.row.key m.after)) (Some (RowTooLarge m.row)) None
 
-abbrev pub first_large : List Modification → Option TxnFault
-first_large [] = None
-first_large (m ∷ ms) = or_this (large_fault m) (first_large ms)
-
 -- the larger size of the row, before or after
 abbrev pub weight : Modification → ℕ
 weight m = max (size_before m.kind m.row.key m.before) (size_after m.kind m.row.key m.after)
@@ -77,8 +74,8 @@ abbrev pub full_fault : List Modification → List Modification → Option TxnFa
 full_fault ms added = cond (nat_lt history_limit (history_size ms + history_size added)) (Some HistoryFull) None
 
 abbrev pub size_fault : List Modification → List Modification → Option TxnFault
-size_fault ms added = or_this (first_large added) (full_fault ms added)
+size_fault ms added = option_or (first_of large_fault added) (full_fault ms added)
 
 -- the refusals in their order
 abbrev pub first_fault : List Table → List Modification → Txn → Option TxnFault
-first_fault tables ms txn = or_this (write_fault tables ms txn) (size_fault ms (modifications_of tables ms txn))
+first_fault tables ms txn = option_or (write_fault tables ms txn) (size_fault ms (modifications_of tables ms txn))

@@ -1,11 +1,13 @@
 ghost use Rattle.std.specs.Prelude.{◌≡◌, MatchResult, None, Some, length};
 ghost use Rattle.std.specs.Fmt.{is_char_start};
-ghost use Rattle.cs_txn.specs.Columns.{char_length, is_within, is_of, fits, first_cell, value_fault, unset, unset_by, is_due, bad_value, key_cell, key_set, no_such, no_key, key_without, no_column, bad_fault, key_fault, table_fault, column_fault};
-ghost use Rattle.cs_txn.specs.Faults.{not_memory, first_of};
+ghost use Rattle.cs_txn.specs.Columns.{char_length, is_within, is_of, fits, value_fault, unset, unset_by, is_due, bad_value, key_cell, key_set, no_such, no_key, key_without, no_column, fault_in, fault_without, fault_by};
+ghost use Rattle.cs_txn.specs.Faults.{not_memory};
+ghost use Rattle.cs_types.specs.Firsts.{first_of};
 ghost use Rattle.cs_txn.specs.Finding.{IsLookup};
 
 use crate::finding::{column_of, find, is_key, lookup_of};
 use crate::lookup::Lookup;
+use crate::test::Test;
 use crate::{TxnFault, Write};
 use cs_schema::{Column, Table, Tables};
 use cs_types::{Cell, Cells, ColumnType, Duplicate, Kind, Text, Value};
@@ -70,7 +72,7 @@ fn may_stand(column: &Column, value: &Value) -> bool
     }
 }
 
-fn value(table: &Table, lookup: &Lookup, cell: &Cell) -> Result<(), TxnFault>
+fn check_value(table: &Table, lookup: &Lookup, cell: &Cell) -> Result<(), TxnFault>
     requires { IsLookup table.now lookup.now }
     ensures { MatchResult result (λ _. value_fault table.now.columns cell.now ≡ None) (λ e. not_memory e → value_fault table.now.columns cell.now ≡ Some e) }
 {
@@ -82,12 +84,12 @@ fn value(table: &Table, lookup: &Lookup, cell: &Cell) -> Result<(), TxnFault>
     Ok(())
 }
 
-fn values(table: &Table, lookup: &Lookup, cells: &[Cell]) -> Result<(), TxnFault>
+fn check_values(table: &Table, lookup: &Lookup, cells: &[Cell]) -> Result<(), TxnFault>
     requires { IsLookup table.now lookup.now }
-    ensures { MatchResult result (λ _. first_cell (value_fault table.now.columns) cells.now ≡ None) (λ e. not_memory e → first_cell (value_fault table.now.columns) cells.now ≡ Some e) }
+    ensures { MatchResult result (λ _. first_of (value_fault table.now.columns) cells.now ≡ None) (λ e. not_memory e → first_of (value_fault table.now.columns) cells.now ≡ Some e) }
 {
     for cell in cells {
-        value(table, lookup, cell)?;
+        check_value(table, lookup, cell)?;
     }
     Ok(())
 }
@@ -109,7 +111,7 @@ fn is_needed(table: &Table, lookup: &Lookup, column: &Column, set: &Cells) -> bo
     }
 }
 
-fn all_set(table: &Table, lookup: &Lookup, set: &Cells) -> Result<(), TxnFault>
+fn check_needed(table: &Table, lookup: &Lookup, set: &Cells) -> Result<(), TxnFault>
     requires { IsLookup table.now lookup.now }
     ensures { MatchResult result (λ _. unset table.now.key set.now table.now.columns ≡ None) (λ e. not_memory e → unset table.now.key set.now table.now.columns ≡ Some e) }
 {
@@ -121,28 +123,28 @@ fn all_set(table: &Table, lookup: &Lookup, set: &Cells) -> Result<(), TxnFault>
     Ok(())
 }
 
-fn all_set_by(kind: Kind, table: &Table, lookup: &Lookup, set: &Cells) -> Result<(), TxnFault>
+fn check_needed_by(kind: Kind, table: &Table, lookup: &Lookup, set: &Cells) -> Result<(), TxnFault>
     requires { IsLookup table.now lookup.now }
     ensures { MatchResult result (λ _. unset_by kind table.now set.now ≡ None) (λ e. not_memory e → unset_by kind table.now set.now ≡ Some e) }
 {
     match kind {
-        Kind::Insert => all_set(table, lookup, set),
+        Kind::Insert => check_needed(table, lookup, set),
         _ => Ok(()),
     }
 }
 
-fn write_values(alloc: Global, table: &Table, write: &Write) -> Result<(), TxnFault>
+fn check_write_values(alloc: Global, table: &Table, write: &Write) -> Result<(), TxnFault>
     ensures { MatchResult result (λ _. bad_value table.now write.now ≡ None) (λ e. not_memory e → bad_value table.now write.now ≡ Some e) }
 {
     let lookup = lookup_of(alloc, table)?;
-    values(table, &lookup, write.row.key.items())?;
-    values(table, &lookup, write.set.items())?;
-    all_set_by(write.kind, table, &lookup, &write.set)
+    check_values(table, &lookup, write.row.key.items())?;
+    check_values(table, &lookup, write.set.items())?;
+    check_needed_by(write.kind, table, &lookup, &write.set)
 }
 
-fn no_key_set(table: &Table, lookup: &Lookup, set: &[Cell]) -> Result<(), TxnFault>
+fn check_no_key_set(table: &Table, lookup: &Lookup, set: &[Cell]) -> Result<(), TxnFault>
     requires { IsLookup table.now lookup.now }
-    ensures { MatchResult result (λ _. first_cell (key_cell table.now.key) set.now ≡ None) (λ e. not_memory e → first_cell (key_cell table.now.key) set.now ≡ Some e) }
+    ensures { MatchResult result (λ _. first_of (key_cell table.now.key) set.now ≡ None) (λ e. not_memory e → first_of (key_cell table.now.key) set.now ≡ Some e) }
 {
     for cell in set {
         if is_key(table, lookup, &cell.column) {
@@ -152,16 +154,16 @@ fn no_key_set(table: &Table, lookup: &Lookup, set: &[Cell]) -> Result<(), TxnFau
     Ok(())
 }
 
-fn write_keys(alloc: Global, table: &Table, write: &Write) -> Result<(), TxnFault>
+fn check_write_set(alloc: Global, table: &Table, write: &Write) -> Result<(), TxnFault>
     ensures { MatchResult result (λ _. key_set table.now write.now ≡ None) (λ e. not_memory e → key_set table.now write.now ≡ Some e) }
 {
     let lookup = lookup_of(alloc, table)?;
-    no_key_set(table, &lookup, write.set.items())
+    check_no_key_set(table, &lookup, write.set.items())
 }
 
-fn all_columns(table: &Table, lookup: &Lookup, set: &[Cell]) -> Result<(), TxnFault>
+fn check_columns_there(table: &Table, lookup: &Lookup, set: &[Cell]) -> Result<(), TxnFault>
     requires { IsLookup table.now lookup.now }
-    ensures { MatchResult result (λ _. first_cell (no_such table.now.columns) set.now ≡ None) (λ e. not_memory e → first_cell (no_such table.now.columns) set.now ≡ Some e) }
+    ensures { MatchResult result (λ _. first_of (no_such table.now.columns) set.now ≡ None) (λ e. not_memory e → first_of (no_such table.now.columns) set.now ≡ Some e) }
 {
     for cell in set {
         let Some(_) = column_of(table, lookup, &cell.column) else {
@@ -171,9 +173,9 @@ fn all_columns(table: &Table, lookup: &Lookup, set: &[Cell]) -> Result<(), TxnFa
     Ok(())
 }
 
-fn all_of_key(table: &Table, lookup: &Lookup, cells: &[Cell]) -> Result<(), TxnFault>
+fn check_key_only(table: &Table, lookup: &Lookup, cells: &[Cell]) -> Result<(), TxnFault>
     requires { IsLookup table.now lookup.now }
-    ensures { MatchResult result (λ _. first_cell (no_key table.now.key) cells.now ≡ None) (λ e. not_memory e → first_cell (no_key table.now.key) cells.now ≡ Some e) }
+    ensures { MatchResult result (λ _. first_of (no_key table.now.key) cells.now ≡ None) (λ e. not_memory e → first_of (no_key table.now.key) cells.now ≡ Some e) }
 {
     for cell in cells {
         if !is_key(table, lookup, &cell.column) {
@@ -183,7 +185,7 @@ fn all_of_key(table: &Table, lookup: &Lookup, cells: &[Cell]) -> Result<(), TxnF
     Ok(())
 }
 
-fn whole_key(cells: &Cells, key: &[Text]) -> Result<(), TxnFault>
+fn check_key_whole(cells: &Cells, key: &[Text]) -> Result<(), TxnFault>
     ensures { MatchResult result (λ _. key_without cells.now key.now ≡ None) (λ e. not_memory e → key_without cells.now key.now ≡ Some e) }
 {
     for name in key {
@@ -194,87 +196,57 @@ fn whole_key(cells: &Cells, key: &[Text]) -> Result<(), TxnFault>
     Ok(())
 }
 
-fn write_columns(alloc: Global, table: &Table, write: &Write) -> Result<(), TxnFault>
+fn check_write_columns(alloc: Global, table: &Table, write: &Write) -> Result<(), TxnFault>
     ensures { MatchResult result (λ _. no_column table.now write.now ≡ None) (λ e. not_memory e → no_column table.now write.now ≡ Some e) }
 {
     let lookup = lookup_of(alloc, table)?;
-    all_columns(table, &lookup, write.set.items())?;
-    all_of_key(table, &lookup, write.row.key.items())?;
-    whole_key(&write.row.key, table.key.as_slice())
+    check_columns_there(table, &lookup, write.set.items())?;
+    check_key_only(table, &lookup, write.row.key.items())?;
+    check_key_whole(&write.row.key, table.key.as_slice())
 }
 
-fn bad(alloc: Global, tables: &Tables, write: &Write) -> Result<(), TxnFault>
-    ensures { MatchResult result (λ _. bad_fault tables.now write.now ≡ None) (λ e. not_memory e → bad_fault tables.now write.now ≡ Some e) }
+/// Whether a write passes a test, where its table is there.
+fn check_in(alloc: Global, test: Test, table: &Table, write: &Write) -> Result<(), TxnFault>
+    ensures { MatchResult result (λ _. fault_in test table.now write.now ≡ None) (λ e. not_memory e → fault_in test table.now write.now ≡ Some e) }
+{
+    match test {
+        Test::Values => check_write_values(alloc, table, write),
+        Test::Set => check_write_set(alloc, table, write),
+        Test::Tables => Ok(()),
+        Test::Columns => check_write_columns(alloc, table, write),
+    }
+}
+
+/// The like, where its table is not there.
+fn check_without(test: Test, write: &Write) -> Result<(), TxnFault>
+    ensures { MatchResult result (λ _. fault_without test write.now ≡ None) (λ e. not_memory e → fault_without test write.now ≡ Some e) }
+{
+    match test {
+        Test::Tables => Err(TxnFault::NoTable(write.row.table.copy()?)),
+        _ => Ok(()),
+    }
+}
+
+fn check_write(alloc: Global, test: Test, tables: &Tables, write: &Write) -> Result<(), TxnFault>
+    ensures { MatchResult result (λ _. fault_by test tables.now write.now ≡ None) (λ e. not_memory e → fault_by test tables.now write.now ≡ Some e) }
 {
     match tables.find(&write.row.table) {
-        Some(table) => write_values(alloc, table, write),
-        None => Ok(()),
+        Some(table) => check_in(alloc, test, table, write),
+        None => check_without(test, write),
     }
 }
 
-fn key(alloc: Global, tables: &Tables, write: &Write) -> Result<(), TxnFault>
-    ensures { MatchResult result (λ _. key_fault tables.now write.now ≡ None) (λ e. not_memory e → key_fault tables.now write.now ≡ Some e) }
-{
-    match tables.find(&write.row.table) {
-        Some(table) => write_keys(alloc, table, write),
-        None => Ok(()),
-    }
-}
-
-fn there(tables: &Tables, write: &Write) -> Result<(), TxnFault>
-    ensures { MatchResult result (λ _. table_fault tables.now write.now ≡ None) (λ e. not_memory e → table_fault tables.now write.now ≡ Some e) }
-{
-    match tables.find(&write.row.table) {
-        Some(_) => Ok(()),
-        None => Err(TxnFault::NoTable(write.row.table.copy()?)),
-    }
-}
-
-fn columns(alloc: Global, tables: &Tables, write: &Write) -> Result<(), TxnFault>
-    ensures { MatchResult result (λ _. column_fault tables.now write.now ≡ None) (λ e. not_memory e → column_fault tables.now write.now ≡ Some e) }
-{
-    match tables.find(&write.row.table) {
-        Some(table) => write_columns(alloc, table, write),
-        None => Ok(()),
-    }
-}
-
-/// Whether all values may stand in their columns.
-pub(crate) fn all_good(alloc: Global, tables: &Tables, writes: &[Write]) -> Result<(), TxnFault>
-    ensures { MatchResult result (λ _. first_of (bad_fault tables.now) writes.now ≡ None) (λ e. not_memory e → first_of (bad_fault tables.now) writes.now ≡ Some e) }
+/// Whether all writes pass a test, or what the first has that does not.
+pub(crate) fn check_writes(
+    alloc: Global,
+    test: Test,
+    tables: &Tables,
+    writes: &[Write],
+) -> Result<(), TxnFault>
+    ensures { MatchResult result (λ _. first_of (fault_by test tables.now) writes.now ≡ None) (λ e. not_memory e → first_of (fault_by test tables.now) writes.now ≡ Some e) }
 {
     for write in writes {
-        bad(alloc, tables, write)?;
-    }
-    Ok(())
-}
-
-/// Whether no key column is set.
-pub(crate) fn no_keys(alloc: Global, tables: &Tables, writes: &[Write]) -> Result<(), TxnFault>
-    ensures { MatchResult result (λ _. first_of (key_fault tables.now) writes.now ≡ None) (λ e. not_memory e → first_of (key_fault tables.now) writes.now ≡ Some e) }
-{
-    for write in writes {
-        key(alloc, tables, write)?;
-    }
-    Ok(())
-}
-
-/// Whether all tables are there.
-pub(crate) fn all_tables(tables: &Tables, writes: &[Write]) -> Result<(), TxnFault>
-    ensures { MatchResult result (λ _. first_of (table_fault tables.now) writes.now ≡ None) (λ e. not_memory e → first_of (table_fault tables.now) writes.now ≡ Some e) }
-{
-    for write in writes {
-        there(tables, write)?;
-    }
-    Ok(())
-}
-
-/// Whether all columns are there, and the rows have their tables' key columns.
-pub(crate) fn all_named(alloc: Global, tables: &Tables, writes: &[Write]) -> Result<(), TxnFault>
-    ensures { MatchResult result (λ _. first_of (column_fault tables.now) writes.now ≡ None) (λ e. not_memory e → first_of (column_fault tables.now) writes.now ≡ Some e) }
-{
-    for write in writes {
-        columns(alloc, tables, write)?;
+        check_write(alloc, test, tables, write)?;
     }
     Ok(())
 }

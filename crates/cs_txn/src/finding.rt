@@ -1,14 +1,14 @@
 ghost use Rattle.std.specs.Prelude.{◌≡◌, All, IfOk, IfSome, option_copied};
 ghost use Rattle.cs_types.specs.Cells.{IsRising};
 ghost use Rattle.cs_types.specs.Value.{IsInRange};
-ghost use Rattle.cs_schema.specs.Names.{is_same, is_among};
+ghost use Rattle.cs_types.specs.Names.{is_among};
 ghost use Rattle.cs_txn.specs.Columns.{column_named};
 ghost use Rattle.cs_txn.specs.Finding.{HasNames, LeadsFrom, LeadsTo, IsLookup};
 ghost use Rattle.cs_txn.specs.Left.{found_in};
 
 use crate::lookup::Lookup;
-use cs_schema::{Column, Names, Table};
-use cs_types::{Cell, Cells, Duplicate, Items, Memory, Text, Value};
+use cs_schema::{Column, Table};
+use cs_types::{Cell, Cells, Duplicate, Items, Memory, Names, Text, Value, is_among};
 use std::alloc::Global;
 use std::cmp::Ordering;
 use std::collections::BTreeMap;
@@ -16,33 +16,11 @@ use std::collections::BTreeMap;
 /// Lists that are no longer than this are walked: that takes less time than making a map.
 const FEW: usize = 16;
 
-/// Whether two names are the same bytes.
-fn same(a: &Text, b: &Text) -> bool
-    ensures { result ≡ is_same a.now b.now }
-{
-    match a.cmp(b) {
-        Ordering::Equal => true,
-        _ => false,
-    }
-}
-
-/// Whether a name stands in a list of names.
-fn among(name: &Text, names: &[Text]) -> bool
-    ensures { result ≡ is_among name.now names.now }
-{
-    for one in names {
-        if same(one, name) {
-            return true;
-        }
-    }
-    false
-}
-
 fn walked<'a>(name: &Text, columns: &'a [Column]) -> Option<&'a Column>
     ensures { option_copied result ≡ column_named name.now columns.now }
 {
     for column in columns {
-        if same(&column.name, name) {
+        if column.name.is(name) {
             return Some(column);
         }
     }
@@ -139,7 +117,7 @@ pub(crate) fn is_key(table: &Table, lookup: &Lookup, name: &Text) -> bool
 {
     match &lookup.key {
         Some(names) => names.has(name),
-        None => among(name, table.key.as_slice()),
+        None => is_among(name, table.key.as_slice()),
     }
 }
 

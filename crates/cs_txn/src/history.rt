@@ -1,15 +1,17 @@
-ghost use Rattle.std.specs.Prelude.{◌≡◌, [], ◌++◌, OnOk, OnErr, MatchResult, None, Some};
+ghost use Rattle.std.specs.Prelude.{◌≡◌, [], ◌++◌, All, OnOk, OnErr, MatchResult, None, Some};
 ghost use Rattle.cs_txn.specs.History.{modifications_of, IsHistory};
 ghost use Rattle.cs_txn.specs.Faults.{not_memory};
+ghost use Rattle.cs_txn.specs.Fits.{FitsCatalog, IsHistoryOf};
 ghost use Rattle.cs_txn.specs.Sizes.{first_fault};
 
 use crate::refusals::check;
-use crate::rows::{lasts, put_all, rooms};
+use crate::row_key::RowKey;
+use crate::rows::{keys_of, lasts, put_all, rooms};
 use crate::sizes::{weights, with_added};
 use crate::writes::modifications;
 use crate::{Modification, Txn, TxnFault};
 use cs_schema::Catalog;
-use cs_types::{Duplicate, RowName, Text};
+use cs_types::{Duplicate, Text};
 use std::alloc::Global;
 use std::collections::BTreeMap;
 use std::marker::Model;
@@ -19,7 +21,7 @@ use std::marker::Model;
 #[derive(Drop)]
 pub struct History {
     items: Vec<Modification>,
-    rows: BTreeMap<RowName, Option<usize>>,
+    rows: BTreeMap<RowKey, Option<usize>>,
     ids: BTreeMap<Text, ()>,
     last: u64,
     size: u64,
@@ -67,10 +69,13 @@ impl History {
         ensures refused { MatchResult result (λ _. first_fault catalog.now.tables self.old txn.now ≡ None) (λ e. not_memory e → first_fault catalog.now.tables self.old txn.now ≡ Some e) }
         ensures ok { OnOk result (self.new ≡ self.old ++ modifications_of catalog.now.tables self.old txn.now) }
         ensures err { OnErr result (self.new ≡ self.old) }
+        ensures fits { All (FitsCatalog catalog.now.tables) self.old → OnOk result (All (FitsCatalog catalog.now.tables) self.new) }
+        ensures of_catalog { IsHistoryOf catalog.now.tables self.old → OnOk result (IsHistoryOf catalog.now.tables self.new) }
     {
         let alloc = *self.items.allocator();
         let tables = catalog.tables();
-        let lasts = lasts(alloc, &self.rows, txn.writes.as_slice())?;
+        let keys = keys_of(alloc, txn.writes.as_slice())?;
+        let lasts = lasts(alloc, &self.rows, &keys)?;
         let items = self.items.as_slice();
         check(alloc, tables, &self.ids, self.last, items, &lasts, txn)?;
         let mut added = modifications(alloc, tables, items, txn, &lasts)?;
@@ -83,9 +88,14 @@ impl History {
             return Ok(());
         }
         self.items.reserve(added.len())?;
-        rooms(&mut self.rows, added.as_slice())?;
+        rooms(&mut self.rows, &keys, &lasts)?;
         self.ids.insert(txn.tx.copy()?, ())?;
-        put_all(&mut self.rows, self.items.as_slice(), added.as_slice());
+        put_all(
+            &mut self.rows,
+            self.items.as_slice(),
+            added.as_slice(),
+            &keys,
+        );
         self.last = txn.stamp.us();
         self.size = size;
         match self.items.append(&mut added) {

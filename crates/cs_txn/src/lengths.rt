@@ -1,4 +1,5 @@
-ghost use Rattle.std.specs.Prelude.{◌≡◌, ◌+◌, ℕ, List, IfOk, OnOk, length, nat_lt};
+ghost use Rattle.std.specs.Prelude.{◌≡◌, ◌+◌, ℕ, List, All, IfOk, OnOk, length, nat_lt};
+ghost use Rattle.std.specs.Fmt.{signed_decimal};
 ghost use Rattle.json.specs.Print.{escape_letter, escape_byte, quoted};
 ghost use Rattle.serde_json.specs.Data.{string};
 ghost use Rattle.serde_json.specs.Written.{compact_text};
@@ -9,7 +10,7 @@ ghost use Rattle.cs_txn.specs.Lengths.{member_length, object_length, cells_lengt
 ghost use Rattle.cs_txn.specs.Sizes.{row_size};
 
 use crate::finding::find;
-use cs_types::{Cell, Cells, Memory, Text, Value};
+use cs_types::{Cell, Cells, Memory, Text, Value, integer_length};
 use std::alloc::Global;
 
 /// The sum. `Memory` where it has more than 64 bits, as no length of a text has.
@@ -54,6 +55,14 @@ fn text_size(text: &str) -> Result<u64, Memory>
     Ok(size)
 }
 
+/// The length of a number in JSON, where its digits stand between quotes: no text is made.
+fn number_size(number: i64) -> Result<u64, Memory>
+    ensures { IfOk result (λ n. n ≡ length (quoted (signed_decimal number))) }
+{
+    let size = add(integer_length(number) as u64, 2)?;
+    Ok(size)
+}
+
 fn written_size(alloc: Global, value: &Value) -> Result<u64, Memory>
     requires { IsInRange value.now }
     ensures { IfOk result (λ n. (s : List ℕ) → value_data value.now ≡ string s → n ≡ length (quoted s)) }
@@ -75,6 +84,7 @@ fn value_size(alloc: Global, value: &Value) -> Result<u64, Memory>
         Value::Bool(true) => Ok(4),
         Value::Bool(false) => Ok(5),
         Value::Text(text) => text_size(text.as_str()),
+        Value::Int64(number) => number_size(*number),
         _ => written_size(alloc, value),
     }
 }
@@ -89,9 +99,11 @@ fn member_size(alloc: Global, name: &Text, value: &Value) -> Result<u64, Memory>
     add(name, value)
 }
 
-fn cells_size(alloc: Global, cells: &Cells) -> Result<u64, Memory>
+/// What the cells take in an object.
+pub(crate) fn cells_size(alloc: Global, cells: &Cells) -> Result<u64, Memory>
     ensures sum { IfOk result (λ n. n ≡ cells_length cells.now) }
     ensures rising { OnOk result (IsRising cells.now) }
+    ensures in_range { OnOk result (All (λ c. IsInRange c.value) cells.now) }
 {
     let mut sum = 0;
     for cell in cells.items() {
@@ -132,13 +144,18 @@ fn object_size(members: u64) -> Result<u64, Memory>
     add(members, 1)
 }
 
-/// The length of a row's object as JSON without spaces, of which no text is made.
-pub(crate) fn row_size(alloc: Global, key: &Cells, cells: &Cells) -> Result<u64, Memory>
-    ensures { IfOk result (λ n. n ≡ row_size key.now cells.now) }
+/// The length of a row's object as JSON without spaces, of which no text is made; `names` is what
+/// the cells of its key take.
+pub(crate) fn row_size(alloc: Global, names: u64, key: &Cells, cells: &Cells) -> Result<u64, Memory>
+    requires names { names ≡ cells_length key.now }
+    requires rising { IsRising key.now }
+    ensures size { IfOk result (λ n. n ≡ row_size key.now cells.now) }
+    ensures rising { OnOk result (IsRising cells.now) }
+    ensures in_range { OnOk result (All (λ c. IsInRange c.value) cells.now) }
 {
-    let names = cells_size(alloc, key)?;
     let others = cells_size(alloc, cells)?;
     let all = add(others, names)?;
     let hidden = hidden_size(alloc, key, cells)?;
-    object_size(all - hidden)
+    let size = object_size(all - hidden)?;
+    Ok(size)
 }

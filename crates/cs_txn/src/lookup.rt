@@ -1,5 +1,4 @@
-use cs_schema::Names;
-use cs_types::Text;
+use cs_types::{Names, Text};
 use std::collections::BTreeMap;
 
 /// What the columns of a table with many of them are found by; nothing where they are few.

@@ -1,10 +1,12 @@
 ghost use Rattle.std.specs.Prelude.{◌≡◌, MatchResult, None, Some, []};
 ghost use Rattle.cs_txn.specs.Places.{IdsOf, standing, lasts_of};
 ghost use Rattle.cs_txn.specs.History.{last_of, last_stamp};
-ghost use Rattle.cs_txn.specs.Faults.{not_memory, row_fault, write_fault, first_of, there_fault, absent_fault, shared_fault, twice_behind};
+ghost use Rattle.cs_txn.specs.Faults.{not_memory, row_fault, write_fault, there_fault, absent_fault, shared_fault, twice_behind};
+ghost use Rattle.cs_types.specs.Firsts.{first_of};
 
-use crate::columns::{all_good, all_named, all_tables, no_keys};
+use crate::columns::check_writes;
 use crate::rows::{place_at, standing_at};
+use crate::test::Test;
 use crate::writes::state;
 use crate::{Modification, Txn, TxnFault, Write};
 use cs_schema::Tables;
@@ -12,7 +14,8 @@ use cs_types::{Duplicate, Kind, Stamp, Text};
 use std::alloc::Global;
 use std::collections::BTreeMap;
 
-fn there(items: &[Modification], last: Option<usize>, write: &Write) -> Result<(), TxnFault>
+/// Whether an INSERT finds no row.
+fn check_insert(items: &[Modification], last: Option<usize>, write: &Write) -> Result<(), TxnFault>
     requires { standing items.now last ≡ last_of write.now.row items.now }
     ensures { MatchResult result (λ _. there_fault items.now write.now ≡ None) (λ e. not_memory e → there_fault items.now write.now ≡ Some e) }
 {
@@ -26,7 +29,7 @@ fn there(items: &[Modification], last: Option<usize>, write: &Write) -> Result<(
     }
 }
 
-fn all_there(
+fn check_inserts(
     items: &[Modification],
     lasts: &[Option<usize>],
     writes: &[Write],
@@ -36,12 +39,13 @@ fn all_there(
 {
     for index in 0..writes.len() {
         let last = place_at(lasts, index);
-        there(items, last, &writes[index])?;
+        check_insert(items, last, &writes[index])?;
     }
     Ok(())
 }
 
-fn absent(items: &[Modification], last: Option<usize>, write: &Write) -> Result<(), TxnFault>
+/// Whether an UPDATE or DELETE finds its row.
+fn check_other(items: &[Modification], last: Option<usize>, write: &Write) -> Result<(), TxnFault>
     requires { standing items.now last ≡ last_of write.now.row items.now }
     ensures { MatchResult result (λ _. absent_fault items.now write.now ≡ None) (λ e. not_memory e → absent_fault items.now write.now ≡ Some e) }
 {
@@ -54,7 +58,7 @@ fn absent(items: &[Modification], last: Option<usize>, write: &Write) -> Result<
     }
 }
 
-fn all_absent(
+fn check_others(
     items: &[Modification],
     lasts: &[Option<usize>],
     writes: &[Write],
@@ -64,12 +68,13 @@ fn all_absent(
 {
     for index in 0..writes.len() {
         let last = place_at(lasts, index);
-        absent(items, last, &writes[index])?;
+        check_other(items, last, &writes[index])?;
     }
     Ok(())
 }
 
-fn shared(
+/// Whether no earlier transaction of this stamp wrote the row.
+fn check_stamp(
     items: &[Modification],
     stamp: Stamp,
     last: Option<usize>,
@@ -89,7 +94,7 @@ fn shared(
     }
 }
 
-fn all_shared(
+fn check_stamps(
     items: &[Modification],
     stamp: Stamp,
     lasts: &[Option<usize>],
@@ -100,12 +105,13 @@ fn all_shared(
 {
     for index in 0..writes.len() {
         let last = place_at(lasts, index);
-        shared(items, stamp, last, &writes[index])?;
+        check_stamp(items, stamp, last, &writes[index])?;
     }
     Ok(())
 }
 
-fn twice(alloc: Global, writes: &[Write]) -> Result<(), TxnFault>
+/// Whether no two writes name one row.
+fn check_rows_differ(alloc: Global, writes: &[Write]) -> Result<(), TxnFault>
     ensures { MatchResult result (λ _. twice_behind [] writes.now ≡ None) (λ e. not_memory e → twice_behind [] writes.now ≡ Some e) }
 {
     if let [_] = writes {
@@ -142,9 +148,9 @@ fn check_rows(
         return Err(TxnFault::StampBack);
     }
     let writes = txn.writes.as_slice();
-    twice(alloc, writes)?;
-    all_there(items, lasts, writes)?;
-    all_absent(items, lasts, writes)?;
+    check_rows_differ(alloc, writes)?;
+    check_inserts(items, lasts, writes)?;
+    check_others(items, lasts, writes)?;
     Ok(())
 }
 
@@ -165,10 +171,10 @@ pub(crate) fn check(
 {
     check_rows(alloc, ids, last, items, lasts, txn)?;
     let writes = txn.writes.as_slice();
-    all_good(alloc, tables, writes)?;
-    no_keys(alloc, tables, writes)?;
-    all_shared(items, txn.stamp, lasts, writes)?;
-    all_tables(tables, writes)?;
-    all_named(alloc, tables, writes)?;
+    check_writes(alloc, Test::Values, tables, writes)?;
+    check_writes(alloc, Test::Set, tables, writes)?;
+    check_stamps(items, txn.stamp, lasts, writes)?;
+    check_writes(alloc, Test::Tables, tables, writes)?;
+    check_writes(alloc, Test::Columns, tables, writes)?;
     Ok(())
 }

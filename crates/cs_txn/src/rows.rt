@@ -1,12 +1,13 @@
-ghost use Rattle.std.specs.Prelude.{◌≡◌, ◌+◌, ◌<◌, ◌++◌, length, IsSome, IfOk, OnOk, Some, None, cond, option_copied, slice_get, ◌^◌};
+ghost use Rattle.std.specs.Prelude.{◌≡◌, ◌+◌, ◌<◌, ◌++◌, length, map, IsSome, IfOk, OnOk, Some, None, cond, option_copied, slice_get, ◌^◌};
 ghost use Rattle.std.specs.BTreeMap.{get, is_at};
-ghost use Rattle.cs_types.specs.Row.{row_cmp};
 ghost use Rattle.cs_types.specs.declared.change.RowName.{RowName as row_name};
 ghost use Rattle.cs_schema.specs.Tables.{flat};
-ghost use Rattle.cs_txn.specs.Places.{PlacesOf, standing, lasts_in, place_at, HaveRoom};
+ghost use Rattle.cs_txn.specs.Digests.{digest_cmp};
+ghost use Rattle.cs_txn.specs.Places.{PlacesOf, standing, rows_of, lasts_in, place_at, HaveRoom};
 
+use crate::row_key::RowKey;
 use crate::{Modification, Write};
-use cs_types::{Duplicate, Memory, RowName};
+use cs_types::Memory;
 use std::alloc::Global;
 use std::collections::BTreeMap;
 
@@ -20,8 +21,8 @@ pub(crate) fn standing_at(items: &[Modification], last: Option<usize>) -> Option
     }
 }
 
-fn place_of(rows: &BTreeMap<RowName, Option<usize>>, row: &RowName) -> Option<usize>
-    ensures { result ≡ flat (get row_cmp rows.now row.now) }
+fn place_of(rows: &BTreeMap<RowKey, Option<usize>>, row: &RowKey) -> Option<usize>
+    ensures { result ≡ flat (get digest_cmp rows.now row.now) }
 {
     match rows.get(row) {
         Some(Some(place)) => Some(*place),
@@ -29,17 +30,28 @@ fn place_of(rows: &BTreeMap<RowName, Option<usize>>, row: &RowName) -> Option<us
     }
 }
 
-/// For each write the place of its row's last modification: each row is looked up once.
+/// For each write the key of its row.
+pub(crate) fn keys_of(alloc: Global, writes: &[Write]) -> Result<Vec<RowKey>, Memory>
+    ensures { IfOk result (λ l. l.items ≡ rows_of writes.now) }
+{
+    let mut keys = Vec::new(alloc);
+    for write in writes {
+        keys.push(RowKey::of(&write.row)?)?;
+    }
+    Ok(keys)
+}
+
+/// For each row the place of its last modification: each is looked up once.
 pub(crate) fn lasts(
     alloc: Global,
-    rows: &BTreeMap<RowName, Option<usize>>,
-    writes: &[Write],
+    rows: &BTreeMap<RowKey, Option<usize>>,
+    keys: &[RowKey],
 ) -> Result<Vec<Option<usize>>, Memory>
-    ensures { IfOk result (λ l. l.items ≡ lasts_in rows.now writes.now) }
+    ensures { IfOk result (λ l. l.items ≡ lasts_in rows.now keys.now) }
 {
     let mut lasts = Vec::new(alloc);
-    for write in writes {
-        lasts.push(place_of(rows, &write.row))?;
+    for key in keys {
+        lasts.push(place_of(rows, key))?;
     }
     Ok(lasts)
 }
@@ -65,56 +77,69 @@ fn item_at(items: &[Modification], place: usize) -> Option<&Modification>
 }
 
 /// Makes a place for the row, with nothing in it where it had none.
-fn room(rows: &mut BTreeMap<RowName, Option<usize>>, row: &RowName) -> Result<(), Memory>
-    ensures there { OnOk result (IsSome (get row_cmp rows.new row.now)) }
-    ensures kept { (q : row_name) → IsSome (get row_cmp rows.old q) → IsSome (get row_cmp rows.new q) }
-    ensures same { (q : row_name) → flat (get row_cmp rows.new q) ≡ flat (get row_cmp rows.old q) }
+fn room(
+    rows: &mut BTreeMap<RowKey, Option<usize>>,
+    key: &RowKey,
+    last: Option<usize>,
+) -> Result<(), Memory>
+    requires { last ≡ flat (get digest_cmp rows.old key.now) }
+    ensures there { OnOk result (IsSome (get digest_cmp rows.new key.now)) }
+    ensures kept { (q : row_name) → IsSome (get digest_cmp rows.old q) → IsSome (get digest_cmp rows.new q) }
+    ensures same { (q : row_name) → flat (get digest_cmp rows.new q) ≡ flat (get digest_cmp rows.old q) }
 {
-    if !rows.contains_key(row) {
-        rows.insert(row.copy()?, None)?;
+    match last {
+        Some(_) => Ok(()),
+        None => {
+            rows.insert(key.copy()?, None)?;
+            Ok(())
+        }
     }
-    Ok(())
 }
 
 /// Sets the place of a row that has room: this takes no memory.
-fn put(rows: &mut BTreeMap<RowName, Option<usize>>, row: &RowName, place: usize)
-    requires { IsSome (get row_cmp rows.old row.now) }
-    ensures { (q : row_name) → get row_cmp rows.new q ≡ cond (is_at (row_cmp row.now) q) (Some (Some place)) (get row_cmp rows.old q) }
+fn put(rows: &mut BTreeMap<RowKey, Option<usize>>, key: &RowKey, place: usize)
+    requires { IsSome (get digest_cmp rows.old key.now) }
+    ensures { (q : row_name) → get digest_cmp rows.new q ≡ cond (is_at (digest_cmp key.now) q) (Some (Some place)) (get digest_cmp rows.old q) }
 {
-    match rows.get_mut(row) {
+    match rows.get_mut(key) {
         Some(slot) => *slot = Some(place),
         None => unreachable!(),
     }
 }
 
-/// Makes a place for each of the rows.
+/// Makes a place for each of the rows, whose last places are given.
 pub(crate) fn rooms(
-    rows: &mut BTreeMap<RowName, Option<usize>>,
-    added: &[Modification],
+    rows: &mut BTreeMap<RowKey, Option<usize>>,
+    keys: &[RowKey],
+    lasts: &[Option<usize>],
 ) -> Result<(), Memory>
-    ensures there { OnOk result (HaveRoom rows.new added.now) }
-    ensures same { (q : row_name) → flat (get row_cmp rows.new q) ≡ flat (get row_cmp rows.old q) }
+    requires { lasts.now ≡ lasts_in rows.old keys.now }
+    ensures there { OnOk result (HaveRoom rows.new keys.now) }
+    ensures same { (q : row_name) → flat (get digest_cmp rows.new q) ≡ flat (get digest_cmp rows.old q) }
 {
-    for item in added {
-        room(rows, &item.row)?;
+    for index in 0..keys.len() {
+        let last = place_at(lasts, index);
+        room(rows, &keys[index], last)?;
     }
     Ok(())
 }
 
 /// Sets the place of each row that is added behind the items: this takes no memory.
 pub(crate) fn put_all(
-    rows: &mut BTreeMap<RowName, Option<usize>>,
+    rows: &mut BTreeMap<RowKey, Option<usize>>,
     items: &[Modification],
     added: &[Modification],
+    keys: &[RowKey],
 )
     requires places { PlacesOf items.now rows.old }
-    requires there { HaveRoom rows.old added.now }
+    requires there { HaveRoom rows.old keys.now }
+    requires rows { keys.now ≡ map (λ m. m.row) added.now }
     requires fits { length items.now + length added.now < 2 ^ 64 }
     ensures { PlacesOf (items.now ++ added.now) rows.new }
 {
     let mut place = items.len();
-    for item in added {
-        put(rows, &item.row, place);
+    for key in keys {
+        put(rows, key, place);
         place += 1;
     }
 }

@@ -1,5 +1,6 @@
 ghost use Rattle.std.specs.Prelude.{◌≡◌, IfOk, option_copied};
-ghost use Rattle.cs_txn.specs.History.{last_of, left_of, modification_of, modifications_of, columns_of};
+ghost use Rattle.cs_txn.specs.History.{last_of, left_of, modification_of, modifications_of};
+ghost use Rattle.cs_types.specs.Names.{columns_of};
 ghost use Rattle.cs_txn.specs.Places.{standing, lasts_of};
 
 use crate::left::{free_columns, left, row_as_is};
@@ -22,14 +23,15 @@ pub(crate) fn state(items: &[Modification], last: Option<usize>) -> Option<&Cell
     }
 }
 
-fn columns(alloc: Global, cells: &Cells) -> Result<Items<Text>, Memory>
+/// The columns that the cells stand for.
+fn names_of(alloc: Global, cells: &Cells) -> Result<Items<Text>, Memory>
     ensures { IfOk result (λ names. names ≡ columns_of cells.now) }
 {
-    let mut names = Items::new(alloc);
+    let mut names = Vec::with_capacity(alloc, cells.items().len())?;
     for cell in cells.items() {
         names.push(cell.column.copy()?)?;
     }
-    Ok(names)
+    Ok(Items::from_vec(names))
 }
 
 fn modification(
@@ -51,7 +53,7 @@ fn modification(
         tag: txn.tag.copy()?,
         kind: write.kind,
         row: write.row.copy()?,
-        named: columns(alloc, &write.set)?,
+        named: names_of(alloc, &write.set)?,
         before: row_as_is(alloc, &free, before)?,
         after: left(alloc, &free, write, before)?,
     })

@@ -1,6 +1,0 @@
-use Rattle.std.proofs.Common.{◌≡◌, drop}
-use Rattle.cs_schema.specs.Names.{is_among}
-use Rattle.cs_txn.proofs.finding.among.Given as goal
-
-abbrev pub invariant-loop-one : goal.invariant-loop-one
-invariant-loop-one l = is_among l.name (drop l.one-index l.names) ≡ is_among l.name l.names

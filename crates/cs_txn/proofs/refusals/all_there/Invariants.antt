@@ -1,6 +1,0 @@
-use Rattle.std.proofs.Common.{◌≡◌, drop}
-use Rattle.cs_txn.specs.Faults.{first_of, there_fault}
-use Rattle.cs_txn.proofs.refusals.all_there.Given as goal
-
-abbrev pub invariant-loop-index : goal.invariant-loop-index
-invariant-loop-index l = first_of (there_fault l.items) (drop l.index l.writes) ≡ first_of (there_fault l.items) l.writes
