@@ -1,5 +1,13 @@
+pub mod ToldColumns
+pub mod Transactions
 pub mod Filter
+pub mod Fitting
+pub mod Grouped
 pub mod Listed
+pub mod Members
+pub mod OneDatabase
+pub mod Order
 pub mod Ordinals
 pub mod Rules
-pub mod SetColumns
+pub mod SameNames
+pub mod Between

@@ -5,7 +5,7 @@ use Rattle.std.specs.Cmp.Lexicographic.{slice_cmp}
 use Rattle.std.proofs.lemmas.Map.Lookups.{exact_bytes}
 use Rattle.cs_records.specs.declared.captured.ColumnInfo.{ColumnInfo}
 use Rattle.cs_records.specs.declared.captured.Captured.{Captured}
-use Rattle.cs_schema.specs.Names.{is_same, is_among}
+use Rattle.cs_types.specs.Names.{is_same, is_among}
 use Rattle.cs_schema.specs.Tables.{table_named}
 use Rattle.cs_schema.specs.Watching.{key_of}
 use Rattle.cs_schema.specs.declared.types.Column.{Column}

@@ -9,7 +9,7 @@ use Rattle.std.proofs.lemmas.Map.Keys.{IsStrictlyIncreasing-from_sorted}
 use Rattle.cs_types.specs.declared.change.Change.{Change}
 use Rattle.cs_records.specs.declared.captured.ColumnInfo.{ColumnInfo}
 use Rattle.cs_records.specs.declared.captured.Captured.{Captured}
-use Rattle.cs_schema.specs.Names.{is_among}
+use Rattle.cs_types.specs.Names.{is_among}
 use Rattle.cs_schema.specs.Tables.{table_named}
 use Rattle.cs_schema.specs.Watching.{key_of}
 use Rattle.cs_schema.specs.declared.types.Column.{Column}

@@ -10,7 +10,7 @@ use Rattle.cs_types.specs.declared.change.Kind.TheVariants.{Insert, Update, Dele
 use Rattle.cs_types.specs.declared.names.CaptureType.{CaptureType}
 use Rattle.cs_types.specs.declared.names.CaptureType.TheVariants.{OldAndNewValues, NewValues, NewRow, NewRowAndOldValues}
 use Rattle.cs_records.specs.declared.captured.Captured.{Captured}
-use Rattle.cs_schema.specs.Names.{is_among}
+use Rattle.cs_types.specs.Names.{is_among}
 use Rattle.cs_schema.specs.Tables.{table_named}
 use Rattle.cs_schema.specs.Watching.{key_of, watches_table}
 use Rattle.cs_schema.specs.declared.types.Table.{Table}

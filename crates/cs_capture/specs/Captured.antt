@@ -12,11 +12,10 @@ use Rattle.cs_schema.specs.declared.types.Column.{Column}
 use Rattle.cs_schema.specs.declared.types.Table.{Table}
 use Rattle.cs_schema.specs.declared.types.Watch.{Watch}
 use Rattle.cs_schema.specs.declared.types.Stream.{Stream}
-use Rattle.cs_schema.specs.Names.{is_among}
+use Rattle.cs_types.specs.Names.{is_among, columns_of}
 use Rattle.cs_schema.specs.Tables.{table_named}
 use Rattle.cs_schema.specs.Watching.{watches_table, watches_column, key_of}
 use Rattle.cs_txn.specs.declared.txn.Modification.{Modification}
-use Rattle.cs_txn.specs.History.{columns_of}
 use Rattle.cs_capture.specs.declared.table.Told.{Told}
 use Rattle.cs_capture.specs.declared.table.Told.TheVariants.{Nothing, Watched, Modified}
 use Rattle.cs_capture.specs.Table.{told_by}

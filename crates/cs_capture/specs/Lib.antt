@@ -1,4 +1,4 @@
 pub mod Captured
-pub mod SetColumns
 pub mod Table
+pub mod Types
 pub mod Wanted

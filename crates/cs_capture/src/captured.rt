@@ -1,12 +1,12 @@
 ghost use Rattle.std.specs.Prelude.{◌≡◌, IfOk};
 ghost use Rattle.cs_capture.specs.Captured.{is_touched, change_of, change_if, captured_change as captured_change_of, captured};
-ghost use Rattle.cs_capture.specs.SetColumns.{set_by};
 
 use crate::capture_table;
-use crate::choosing::{SetColumns, cells, touched};
+use crate::choosing::{cells, touched};
+use crate::column_names::ColumnNames;
 use crate::columns::{column_infos, key_names};
 use cs_records::Captured;
-use cs_schema::{Catalog, Names, Stream};
+use cs_schema::{Catalog, Stream};
 use cs_txn::Modification;
 use cs_types::{Change, Duplicate, Memory};
 use std::alloc::Global;
@@ -15,11 +15,11 @@ use std::alloc::Global;
 fn change(
     alloc: Global,
     stream: &Stream,
-    key: &Names,
+    key: &ColumnNames,
     item: &Modification,
-    set: &SetColumns,
+    named: &ColumnNames,
 ) -> Result<Change, Memory>
-    requires { set.now ≡ set_by item.now.kind item.now.named }
+    requires { named.now ≡ item.now.named }
     ensures { IfOk result (λ c. c ≡ change_of stream.now key.now item.now) }
 {
     let told = capture_table(stream.capture, item.kind);
@@ -28,8 +28,24 @@ fn change(
         tx: item.tx.copy()?,
         row: item.row.copy()?,
         kind: item.kind,
-        new: cells(alloc, told.new, &stream.watch, key, item, set, &item.after)?,
-        old: cells(alloc, told.old, &stream.watch, key, item, set, &item.before)?,
+        new: cells(
+            alloc,
+            told.new,
+            &stream.watch,
+            key,
+            item,
+            named,
+            &item.after,
+        )?,
+        old: cells(
+            alloc,
+            told.old,
+            &stream.watch,
+            key,
+            item,
+            named,
+            &item.before,
+        )?,
     })
 }
 
@@ -37,16 +53,16 @@ fn change(
 fn change_in(
     alloc: Global,
     stream: &Stream,
-    key: &Names,
+    key: &ColumnNames,
     item: &Modification,
 ) -> Result<Option<Change>, Memory>
     ensures { IfOk result (λ c. c ≡ change_if (is_touched stream.now.watch key.now item.now) stream.now key.now item.now) }
 {
-    let set = SetColumns::of(alloc, item)?;
-    if !touched(&stream.watch, key, item, &set) {
+    let named = ColumnNames::of(alloc, &item.named)?;
+    if !touched(&stream.watch, key, item, &named) {
         return Ok(None);
     }
-    Ok(Some(change(alloc, stream, key, item, &set)?))
+    Ok(Some(change(alloc, stream, key, item, &named)?))
 }
 
 /// The captured change, without what is told of its columns.

@@ -1,20 +1,24 @@
 ghost use Rattle.std.specs.Prelude.{◌≡◌, ◌++◌, ◌+◌, IfOk, OnOk, option_copied};
-ghost use Rattle.cs_txn.specs.History.{columns_of};
+ghost use Rattle.cs_types.specs.Names.{columns_of};
 ghost use Rattle.cs_schema.specs.Watching.{key_of};
 ghost use Rattle.cs_capture.specs.Captured.{told_columns, column_info, infos_from, infos_of};
 
+use crate::column_names::ColumnNames;
 use cs_records::ColumnInfo;
-use cs_schema::{Column, Names, Table};
+use cs_schema::{Column, Table};
 use cs_types::{Cell, Change, Duplicate, Items, Memory, Text};
 use std::alloc::Global;
 
 /// The names of a table's key columns; none where there is no table.
-pub(crate) fn key_names(alloc: Global, table: Option<&Table>) -> Result<Names, Memory>
+pub(crate) fn key_names<'a>(
+    alloc: Global,
+    table: Option<&'a Table>,
+) -> Result<ColumnNames<'a>, Memory>
     ensures { IfOk result (λ names. names ≡ key_of (option_copied table.entry)) }
 {
     match table {
-        Some(table) => Names::of(alloc, table.key.copy()?),
-        None => Names::of(alloc, Items::new(alloc)),
+        Some(table) => ColumnNames::of(alloc, &table.key),
+        None => Ok(ColumnNames::none()),
     }
 }
 
@@ -29,16 +33,16 @@ fn put_columns(names: &mut Items<Text>, cells: &[Cell]) -> Result<(), Memory>
 }
 
 /// The names of the columns that are told.
-fn told_names(alloc: Global, key: &Items<Text>, change: &Change) -> Result<Names, Memory>
+fn told_names(key: &Items<Text>, change: &Change) -> Result<Items<Text>, Memory>
     ensures { IfOk result (λ names. names ≡ told_columns key.now change.now) }
 {
     let mut names = key.copy()?;
     put_columns(&mut names, change.new.items())?;
     put_columns(&mut names, change.old.items())?;
-    Names::of(alloc, names)
+    Ok(names)
 }
 
-fn info(key: &Names, ordinal: u32, column: &Column) -> Result<ColumnInfo, Memory>
+fn info(key: &ColumnNames, ordinal: u32, column: &Column) -> Result<ColumnInfo, Memory>
     ensures { IfOk result (λ c. c ≡ column_info key.now ordinal column.now) }
 {
     Ok(ColumnInfo {
@@ -55,8 +59,8 @@ const FIRST: u32 = 1;
 /// What is told of the columns that have one of these names.
 fn infos(
     alloc: Global,
-    key: &Names,
-    names: &Names,
+    key: &ColumnNames,
+    names: &ColumnNames,
     columns: &[Column],
 ) -> Result<Items<ColumnInfo>, Memory>
     ensures { IfOk result (λ c. c ≡ infos_from 1 key.now names.now columns.now) }
@@ -87,7 +91,7 @@ fn next(ordinal: u32) -> Result<u32, Memory>
 pub(crate) fn column_infos(
     alloc: Global,
     table: Option<&Table>,
-    key: &Names,
+    key: &ColumnNames,
     change: &Change,
 ) -> Result<Items<ColumnInfo>, Memory>
     requires { key.now ≡ key_of (option_copied table) }
@@ -95,7 +99,8 @@ pub(crate) fn column_infos(
 {
     match table {
         Some(table) => {
-            let names = told_names(alloc, &table.key, change)?;
+            let told = told_names(&table.key, change)?;
+            let names = ColumnNames::of(alloc, &told)?;
             infos(alloc, key, &names, table.columns.as_slice())
         }
         None => Ok(Items::new(alloc)),

@@ -1,18 +1,28 @@
-ghost use Rattle.std.specs.Prelude.{◌≡◌, ◌++◌, ◌↔◌, ◌⊎◌, ◌&&◌, [], ℕ, List, None, Some, All, Contains, map, true, false};
+ghost use Rattle.std.specs.Prelude.{◌≡◌, ◌≢◌, ◌++◌, ◌↔◌, ◌⊎◌, ◌&&◌, [], ℕ, List, None, Some, All, AllPairs, Contains, map, true, false};
 ghost use Rattle.std.specs.List.Sorted.{IsStrictlyIncreasing};
 ghost use Rattle.cs_types.specs.declared.cells.Cell.{Cell};
+ghost use Rattle.cs_types.specs.declared.change.Change.{Change};
 ghost use Rattle.cs_types.specs.declared.change.Kind.TheVariants.{Insert, Update, Delete};
 ghost use Rattle.cs_types.specs.declared.names.CaptureType.TheVariants.{NewRow};
 ghost use Rattle.cs_records.specs.declared.captured.Captured.{Captured};
 ghost use Rattle.cs_records.specs.declared.captured.ColumnInfo.{ColumnInfo};
-ghost use Rattle.cs_schema.specs.Names.{is_among};
+ghost use Rattle.cs_types.specs.Change.{wanted_changes};
+ghost use Rattle.cs_types.specs.Database.{AreChangesOfOneDatabase};
+ghost use Rattle.cs_types.specs.Names.{is_among};
+ghost use Rattle.cs_types.specs.Stamp.{IsStamp};
+ghost use Rattle.cs_records.specs.Group.{Agree, HasItsColumns};
+ghost use Rattle.cs_schema.specs.Sound.{IsSoundCatalog};
 ghost use Rattle.cs_schema.specs.Tables.{table_named};
 ghost use Rattle.cs_schema.specs.declared.types.Column.{Column};
 ghost use Rattle.cs_schema.specs.declared.types.Table.{Table};
 ghost use Rattle.cs_schema.specs.declared.types.Stream.{Stream};
 ghost use Rattle.cs_schema.specs.Watching.{key_of, watches_table};
 ghost use Rattle.cs_txn.specs.declared.txn.Modification.{Modification};
+ghost use Rattle.cs_txn.specs.Fits.{HaveNames, FitsCatalog, IsHistoryOf};
+ghost use Rattle.cs_txn.specs.History.{IsHistory};
 ghost use Rattle.cs_capture.specs.Captured.{captured, columns_in, is_watched_in, told_columns};
+ghost use Rattle.cs_capture.specs.Types.{AreOfTheirTypes};
+ghost use Rattle.cs_capture.specs.Wanted.{captured_changes};
 
 /// A law: nothing is captured exactly where the stream does not watch the table, or where an UPDATE
 /// names no watched column of its row.
@@ -49,4 +59,22 @@ pub fn told_columns_are_listed()
 /// A law: the ordinals of a column list rise.
 pub fn ordinals_rise()
     ensures { (tables : List Table) (stream : Stream) (m : Modification) (c : Captured) → captured tables stream m ≡ Some c → IsStrictlyIncreasing (map (λ (i : ColumnInfo). i.ordinal) c.columns) }
+{}
+
+/// A law: what is captured of a modification that fits its catalog can be grouped and written. It
+/// has the columns that its change tells of, and each value is NULL or of the type that is told of
+/// its column, of which no two have one name. What is captured of one transaction agrees, also
+/// where the modifications are any two of one stamp, id and tag that fit.
+pub fn captured_changes_can_be_grouped()
+    ensures columns { (tables : List Table) (streams : List Stream) (stream : Stream) (m : Modification) (c : Captured) → IsSoundCatalog tables streams → FitsCatalog tables m → captured tables stream m ≡ Some c → HasItsColumns c }
+    ensures types { (tables : List Table) (streams : List Stream) (stream : Stream) (m : Modification) (c : Captured) → IsSoundCatalog tables streams → FitsCatalog tables m → captured tables stream m ≡ Some c → AreOfTheirTypes c }
+    ensures transaction { (tables : List Table) (streams : List Stream) (stream : Stream) (ms : List Modification) (m n : Modification) (c d : Captured) → IsSoundCatalog tables streams → IsHistoryOf tables ms → IsHistory ms → Contains ms m → Contains ms n → m.tx ≡ n.tx → captured tables stream m ≡ Some c → captured tables stream n ≡ Some d → Agree c d }
+    ensures agree { (tables : List Table) (streams : List Stream) (stream : Stream) (m n : Modification) (c d : Captured) → IsSoundCatalog tables streams → FitsCatalog tables m → FitsCatalog tables n → m.stamp ≡ n.stamp → m.tx ≡ n.tx → m.tag ≡ n.tag → captured tables stream m ≡ Some c → captured tables stream n ≡ Some d → Agree c d }
+{}
+
+/// A law: the changes that are wanted of a history which fits its catalog, whose tables have names
+/// without a byte 00, are of one database, and no two of them agree in both transaction and row.
+pub fn changes_are_of_one_database()
+    ensures changes { (tables : List Table) (streams : List Stream) (stream : Stream) (ms : List Modification) (start end : ℕ) → IsSoundCatalog tables streams → HaveNames tables → IsHistoryOf tables ms → IsStamp start → IsStamp end → AllPairs AreChangesOfOneDatabase (wanted_changes start end (captured_changes tables stream ms)) }
+    ensures apart { (tables : List Table) (stream : Stream) (ms : List Modification) (start end : ℕ) → IsHistory ms → AllPairs (λ (c d : Change). c.row ≡ d.row → c.tx ≢ d.tx) (wanted_changes start end (captured_changes tables stream ms)) }
 {}

@@ -1,5 +1,5 @@
 use Rattle.std.proofs.Common.{◌≡◌, ◌++◌, drop}
-use Rattle.cs_txn.specs.History.{columns_of}
+use Rattle.cs_types.specs.Names.{columns_of}
 use Rattle.cs_capture.proofs.columns.put_columns.Given as goal
 
 abbrev pub invariant-loop-cell : goal.invariant-loop-cell
