@@ -7,18 +7,18 @@ use Rattle.cs_types.specs.Token.{is_token}
 use Rattle.cs_records.specs.declared.records.Child.{Child}
 use Rattle.cs_records.specs.declared.records.ChildRecord.{ChildRecord}
 use Rattle.cs_records.specs.declared.records.Record.TheVariants.{Heartbeat, Children}
-use Rattle.cs_json.specs.Reading.{each}
-use Rattle.cs_json.specs.Members.{each_token}
-use Rattle.cs_json.specs.Missing.{missing_in, first_of}
-use Rattle.cs_json.specs.Children.{heartbeat_reading, child_reading, children_reading}
+use Rattle.cs_json_reading.specs.Reading.{each}
+use Rattle.cs_json_reading.specs.Members.{each_token}
+use Rattle.cs_json_reading.specs.Missing.{missing_in, first_in}
+use Rattle.cs_json_reading.specs.Children.{heartbeat_reading, child_reading, children_reading}
 use Rattle.cs_json.specs.Written.{heartbeat_data, child_data, children_data, IsKeptChild}
+use Rattle.cs_json.proofs.Resting.{Laws}
 use Rattle.cs_json.proofs.Lists.{All-first, All-others}
-use Rattle.cs_json.proofs.Stamps.{stamp_written}
 use Rattle.cs_json.proofs.EightDigits.{sequence_written}
 
-pub heartbeat_back : (at : ℕ) → IsStamp at → heartbeat_reading (heartbeat_data at) ≡ Ok (Heartbeat at)
+pub heartbeat_back : Laws → (at : ℕ) → IsStamp at → heartbeat_reading (heartbeat_data at) ≡ Ok (Heartbeat at)
 unfolding heartbeat_reading
-heartbeat_back at is = rw (stamp_written at is) refl
+heartbeat_back laws at is = rw (laws.stamps at is) refl
 
 tokens_back : (ts : List (List ℕ)) → All (λ t. is_token t ≡ true) ts → each_token (items_of (map string ts)) ≡ Some ts
 tokens_back [] h = refl
@@ -35,10 +35,10 @@ each_back : (cs : List Child) → All IsKeptChild cs → each child_reading (ite
 each_back [] h = refl
 each_back (c ∷ cs) h = rw (child_back c (All-first IsKeptChild c cs h), each_back cs (All-others IsKeptChild c cs h)) refl
 
-pub no_child_lacks : (cs : List Child) → first_of (missing_in (codes "token" ∷ [])) (items_of (map child_data cs)) ≡ None
+pub no_child_lacks : (cs : List Child) → first_in (missing_in (codes "token" ∷ [])) (items_of (map child_data cs)) ≡ None
 no_child_lacks [] = refl
 no_child_lacks (c ∷ cs) = no_child_lacks cs
 
-pub children_back : (c : ChildRecord) → IsStamp c.start → All IsKeptChild c.children → c.sequence < 100000000 → children_reading (children_data c) ≡ Ok (Children c)
+pub children_back : Laws → (c : ChildRecord) → IsStamp c.start → All IsKeptChild c.children → c.sequence < 100000000 → children_reading (children_data c) ≡ Ok (Children c)
 unfolding children_reading
-children_back c start kept small = rw (stamp_written c.start start, sequence_written c.sequence small, each_back c.children kept) refl
+children_back laws c start kept small = rw (laws.stamps c.start start, sequence_written c.sequence small, each_back c.children kept) refl

@@ -4,16 +4,19 @@ use Rattle.serde_json.specs.View.{items_of}
 use Rattle.cs_types.specs.declared.cells.Cell.{Cell}
 use Rattle.cs_types.specs.declared.column_type.ColumnType.{ColumnType}
 use Rattle.cs_types.specs.declared.column_type.ColumnType.TheVariants.{Bool, Int64, Numeric, Text, Bytes, Date, Timestamp}
-use Rattle.cs_types.specs.Value.{IsInRange, IsWithin, value_data}
-use Rattle.cs_types.proofs.ReadBack.{spells_written}
+use Rattle.cs_types.specs.Cells.{AreCells}
+use Rattle.cs_types.specs.Value.{IsInRange, value_data}
 use Rattle.cs_records.specs.declared.captured.ColumnInfo.{ColumnInfo}
 use Rattle.cs_records.specs.declared.records.Mod.{Mod}
-use Rattle.cs_json.specs.Reading.{each}
-use Rattle.cs_json.specs.Texts.{code_reading, code_text}
-use Rattle.cs_json.specs.Missing.{missing_in, first_of, column_members}
-use Rattle.cs_json.specs.Columns.{column_type, column_reading}
-use Rattle.cs_json.specs.Cells.{cell_of_value, cell_of_type, cell_reading, each_cell, mod_reading}
-use Rattle.cs_json.specs.Written.{column_data, cells_members, mod_data, OfColumn, IsListed, IsListedMod, AreKept, IsKeptMod}
+use Rattle.cs_json_reading.specs.Reading.{each}
+use Rattle.cs_json_reading.specs.Texts.{code_reading, code_text}
+use Rattle.cs_json_reading.specs.Missing.{missing_in, first_in, column_members}
+use Rattle.cs_json_reading.specs.Columns.{column_type, column_reading}
+use Rattle.cs_json_reading.specs.Cells.{cell_of_value, cell_of_type, cell_reading, each_cell, mod_reading}
+use Rattle.cs_json_reading.specs.Standing.{OfColumn, IsListed, IsListedMod}
+use Rattle.cs_json.specs.Written.{column_data, mod_data, IsKeptMod}
+use Rattle.cs_types.specs.Texts.{cells_members}
+use Rattle.cs_json.proofs.Resting.{Laws}
 use Rattle.cs_json.proofs.Lists.{All-first, All-others}
 
 code_back : (ty : ColumnType) → code_reading (code_text ty) ≡ Some ty
@@ -36,39 +39,40 @@ pub columns_back : (cs : List ColumnInfo) → All (λ c. c.ordinal < 2 ^ 32) cs 
 columns_back [] h = refl
 columns_back (c ∷ cs) h = rw (column_back c (All-first (λ c. c.ordinal < 2 ^ 32) c cs h), columns_back cs (All-others (λ c. c.ordinal < 2 ^ 32) c cs h)) refl
 
-pub no_column_lacks : (cs : List ColumnInfo) → first_of (missing_in column_members) (items_of (map column_data cs)) ≡ None
+pub no_column_lacks : (cs : List ColumnInfo) → first_in (missing_in column_members) (items_of (map column_data cs)) ≡ None
 no_column_lacks [] = refl
 no_column_lacks (c ∷ cs) = no_column_lacks cs
 
-cell_back : (columns : List ColumnInfo) (c : Cell) → IsListed columns c → IsInRange c.value → IsWithin c.value → cell_reading columns c.column (value_data c.value) ≡ Ok c
-cell_back columns c listed range within = at (column_type c.column columns) listed
+cell_back : Laws → (columns : List ColumnInfo) (c : Cell) → IsListed columns c → IsInRange c.value → cell_reading columns c.column (value_data c.value) ≡ Ok c
+cell_back laws columns c listed range = at (column_type c.column columns) listed
   where
     at : (o : Option ColumnType) → OfColumn o c.value → cell_of_type c.column (value_data c.value) o ≡ Ok c
     at None of = absurd of
-    at (Some ty) of = ap (cell_of_value c.column) (spells_written ty c.value of range within)
+    at (Some ty) of = ap (cell_of_value c.column) (laws.values ty c.value of range)
 
-each_back : (columns : List ColumnInfo) (cells : List Cell) → All (IsListed columns) cells → All (λ c. IsInRange c.value) cells → All (λ c. IsWithin c.value) cells
+each_back : Laws → (columns : List ColumnInfo) (cells : List Cell) → All (IsListed columns) cells → All (λ c. IsInRange c.value) cells
     → each_cell columns (cells_members cells) ≡ Ok cells
-each_back columns [] listed range within = refl
-each_back columns (c ∷ cells) listed range within =
-    let here = cell_back columns c (All-first (IsListed columns) c cells listed) (All-first (λ c. IsInRange c.value) c cells range) (All-first (λ c. IsWithin c.value) c cells within) in
-    let rest = each_back columns cells (All-others (IsListed columns) c cells listed) (All-others (λ c. IsInRange c.value) c cells range) (All-others (λ c. IsWithin c.value) c cells within) in
+each_back laws columns [] listed range = refl
+each_back laws columns (c ∷ cells) listed range =
+    let here = cell_back laws columns c (All-first (IsListed columns) c cells listed) (All-first (λ c. IsInRange c.value) c cells range) in
+    let rest = each_back laws columns cells (All-others (IsListed columns) c cells listed) (All-others (λ c. IsInRange c.value) c cells range) in
     rw (here, rest) refl
 
-cells_back : (columns : List ColumnInfo) (cells : List Cell) → All (IsListed columns) cells → AreKept cells → each_cell columns (cells_members cells) ≡ Ok cells
-cells_back columns cells listed kept = each_back columns cells listed kept.ordered.in_range kept.within
+cells_back : Laws → (columns : List ColumnInfo) (cells : List Cell) → All (IsListed columns) cells → AreCells cells → each_cell columns (cells_members cells) ≡ Ok cells
+cells_back laws columns cells listed kept = each_back laws columns cells listed kept.in_range
 
-mod_back : (columns : List ColumnInfo) (m : Mod) → IsListedMod columns m → IsKeptMod m → mod_reading columns (mod_data m) ≡ Ok m
+mod_back : Laws → (columns : List ColumnInfo) (m : Mod) → IsListedMod columns m → IsKeptMod m → mod_reading columns (mod_data m) ≡ Ok m
 unfolding mod_reading
-mod_back columns m listed kept = rw (cells_back columns m.keys listed.keys kept.keys, cells_back columns m.new listed.new kept.new, cells_back columns m.old listed.old kept.old) refl
+mod_back laws columns m listed kept =
+    rw (cells_back laws columns m.keys listed.keys kept.keys, cells_back laws columns m.new listed.new kept.new, cells_back laws columns m.old listed.old kept.old) refl
 
-pub mods_back : (columns : List ColumnInfo) (ms : List Mod) → All (IsListedMod columns) ms → All IsKeptMod ms → each (mod_reading columns) (items_of (map mod_data ms)) ≡ Ok ms
-mods_back columns [] listed kept = refl
-mods_back columns (m ∷ ms) listed kept =
-    let here = mod_back columns m (All-first (IsListedMod columns) m ms listed) (All-first IsKeptMod m ms kept) in
-    let rest = mods_back columns ms (All-others (IsListedMod columns) m ms listed) (All-others IsKeptMod m ms kept) in
+pub mods_back : Laws → (columns : List ColumnInfo) (ms : List Mod) → All (IsListedMod columns) ms → All IsKeptMod ms → each (mod_reading columns) (items_of (map mod_data ms)) ≡ Ok ms
+mods_back laws columns [] listed kept = refl
+mods_back laws columns (m ∷ ms) listed kept =
+    let here = mod_back laws columns m (All-first (IsListedMod columns) m ms listed) (All-first IsKeptMod m ms kept) in
+    let rest = mods_back laws columns ms (All-others (IsListedMod columns) m ms listed) (All-others IsKeptMod m ms kept) in
     rw (here, rest) refl
 
-pub no_mod_lacks : (ms : List Mod) → first_of (missing_in (codes "keys" ∷ [])) (items_of (map mod_data ms)) ≡ None
+pub no_mod_lacks : (ms : List Mod) → first_in (missing_in (codes "keys" ∷ [])) (items_of (map mod_data ms)) ≡ None
 no_mod_lacks [] = refl
 no_mod_lacks (m ∷ ms) = no_mod_lacks ms

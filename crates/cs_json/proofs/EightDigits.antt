@@ -4,7 +4,8 @@ use Rattle.std.specs.Char.{digit_value}
 use Rattle.std.specs.Str.Parse.{digits_value, digits_value_after}
 use Rattle.cs_types.specs.Digits.{all_digits}
 use Rattle.cs_types.specs.Shape.{two_digits}
-use Rattle.cs_json.specs.Texts.{eight_digits, sequence_reading}
+use Rattle.cs_json_reading.specs.Texts.{sequence_reading}
+use Rattle.cs_json.specs.Written.{eight_digits}
 
 digit_is : (d : ℕ) → d < 10 → digit_value (48 + d) ≡ d
 digit_is d h = grind (arith, h)

@@ -17,7 +17,7 @@ use Rattle.cs_types.specs.declared.cells.Cell.{Cell}
 use Rattle.cs_types.specs.Cells.{IsRising}
 use Rattle.cs_types.specs.Token.{is_token, is_token_byte, are_token_bytes}
 use Rattle.cs_types.specs.Value.{value_data}
-use Rattle.cs_json.specs.Written.{cells_members}
+use Rattle.cs_types.specs.Texts.{cells_members}
 
 below_middle : (first : Cell) (done : List Cell) (c : Cell) (more : List Cell)
     → AllByRecursion (λ y. slice_cmp nat_cmp first.column y ≡ Less) (map (λ c. c.column) (done ++ c ∷ more))

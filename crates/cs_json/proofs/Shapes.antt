@@ -12,7 +12,8 @@ use Rattle.cs_records.specs.declared.records.Mod.{Mod}
 use Rattle.cs_records.specs.declared.records.Child.{Child}
 use Rattle.cs_records.specs.declared.records.Record.{Record}
 use Rattle.cs_records.specs.declared.records.Record.TheVariants.{Change, Heartbeat, Children}
-use Rattle.cs_json.specs.Written.{child_data, column_data, cells_members, mod_data, record_data}
+use Rattle.cs_json.specs.Written.{child_data, column_data, mod_data, record_data}
+use Rattle.cs_types.specs.Texts.{cells_members}
 
 value_depth : (v : Value) → depth (value_data v) ≡ 0
 value_depth Null = refl

@@ -1,11 +1,1 @@
-pub mod Reading
-pub mod Texts
-pub mod Members
-pub mod Missing
-pub mod Children
-pub mod Columns
-pub mod Cells
-pub mod Changes
-pub mod Telling
-pub mod Line
 pub mod Written

@@ -1,15 +1,14 @@
 -- The one line that is written for a record: its JSON without spaces, members in byte order of their names (this project's own).
-use Rattle.std.specs.Prelude.{◌≡◌, ℕ, ◌^◌, ◌<◌, ◌≢◌, List, [], ◌∷◌, map, All, true, None, Some, Option, codes, ⊤}
+use Rattle.std.specs.Prelude.{◌≡◌, ℕ, ◌/◌, ◌%◌, ◌^◌, ◌<◌, List, ◌++◌, map, All, true, codes}
 use Rattle.serde_json.specs.Data.{Data, boolean, number, unsigned, string, array, object, Items, no_items, item, Members, no_members, member}
 use Rattle.serde_json.specs.View.{items_of}
 use Rattle.serde_json.specs.Written.{compact_text}
-use Rattle.cs_types.specs.declared.cells.Cell.{Cell}
 use Rattle.cs_types.specs.declared.column_type.ColumnType.{ColumnType}
-use Rattle.cs_types.specs.declared.value.Value.{Value}
 use Rattle.cs_types.specs.Cells.{AreCells}
+use Rattle.cs_types.specs.Shape.{four_digits}
 use Rattle.cs_types.specs.Stamp.{IsStamp, stamp_text}
+use Rattle.cs_types.specs.Texts.{kind_text, cells_members}
 use Rattle.cs_types.specs.Token.{is_token}
-use Rattle.cs_types.specs.Value.{IsOfType, IsWithin, value_data}
 use Rattle.cs_records.specs.declared.captured.ColumnInfo.{ColumnInfo}
 use Rattle.cs_records.specs.declared.records.Mod.{Mod}
 use Rattle.cs_records.specs.declared.records.DataRecord.{DataRecord}
@@ -17,10 +16,13 @@ use Rattle.cs_records.specs.declared.records.Child.{Child}
 use Rattle.cs_records.specs.declared.records.ChildRecord.{ChildRecord}
 use Rattle.cs_records.specs.declared.records.Record.{Record}
 use Rattle.cs_records.specs.declared.records.Record.TheVariants.{Change, Heartbeat, Children}
-use Rattle.cs_json.specs.Texts.{eight_digits, is_transaction, is_name, kind_text, capture_text, code_text}
-use Rattle.cs_json.specs.Columns.{column_type, first_again}
+use Rattle.cs_json_reading.specs.Texts.{capture_text, code_text}
 
 -- ---- the written tree
+
+-- a number below 100,000,000 in eight digits
+unfoldable pub eight_digits : ℕ → List ℕ
+eight_digits n = four_digits (n / 10000) ++ four_digits (n % 10000)
 
 -- a heartbeat record
 abbrev pub heartbeat_data : ℕ → Data
@@ -47,11 +49,6 @@ column_data c = object (member (codes "is_primary_key") (boolean c.is_key)
     (member (codes "name") (string c.name)
     (member (codes "ordinal_position") (number (unsigned c.ordinal))
     (member (codes "type") (type_data c.ty) no_members))))
-
--- cells as members, in their order
-abbrev pub cells_members : List Cell → Members
-cells_members [] = no_members
-cells_members (c ∷ cs) = member c.column (value_data c.value) (cells_members cs)
 
 -- a mod
 abbrev pub mod_data : Mod → Data
@@ -98,53 +95,13 @@ record_data (Change r) = line_data no_items (item (change_data r) no_items) no_i
 abbrev pub record_line : Record → List ℕ
 record_line r = compact_text (record_data r)
 
--- ---- the records for which a line can stand
-
--- the value is NULL or of the type, where there is one
-abbrev pub OfColumn : Option ColumnType → Value → Type 0
-OfColumn None v = ⊥
-OfColumn (Some ty) v = IsOfType ty v
-
--- the cell is of a listed column, and NULL or of the column's type
-abbrev pub IsListed : List ColumnInfo → Cell → Type 0
-IsListed columns c = OfColumn (column_type c.column columns) c.value
-
--- each cell of the mod is one of a listed column
-pub record IsListedMod (columns : List ColumnInfo) (m : Mod) : Type 0 where
-  pub keys : All (IsListed columns) m.keys
-  pub new : All (IsListed columns) m.new
-  pub old : All (IsListed columns) m.old
-
--- a line can stand for the data change record
-pub record CanStandFor (r : DataRecord) : Type 0 where
-  pub sequence : r.sequence < 100000000
-  pub transaction : is_transaction r.tx ≡ true
-  pub table : is_name r.table ≡ true
-  -- no two columns have one name
-  pub apart : first_again [] r.columns ≡ None
-  pub mods : r.mods ≢ []
-  pub cells : All (IsListedMod r.columns) r.mods
-  pub records_in_tx : r.records_in_tx < 2 ^ 63
-  pub parts_in_tx : r.parts_in_tx < 2 ^ 63
-
--- a line can stand for the record
-abbrev pub CanStand : Record → Type 0
-CanStand (Heartbeat at) = ⊤
-CanStand (Children c) = c.sequence < 100000000
-CanStand (Change r) = CanStandFor r
-
 -- ---- what the types of a record keep
 
--- a row's cells in their order, each value of its type's bits
-pub record AreKept (cells : List Cell) : Type 0 where
-  pub ordered : AreCells cells
-  pub within : All (λ c. IsWithin c.value) cells
-
--- what the type of a mod keeps
+-- what the type of a mod keeps: a row's cells, in their order and in range
 pub record IsKeptMod (m : Mod) : Type 0 where
-  pub keys : AreKept m.keys
-  pub new : AreKept m.new
-  pub old : AreKept m.old
+  pub keys : AreCells m.keys
+  pub new : AreCells m.new
+  pub old : AreCells m.old
 
 -- what the type of a child keeps
 pub record IsKeptChild (c : Child) : Type 0 where

@@ -1,26 +1,12 @@
 //! The lines of records: JSON objects, both ways.
 #![tactic(auto)]
 
-mod cells;
-mod change;
-mod children;
-mod columns;
-mod element;
-mod fault;
-mod form;
-mod forms;
-mod line;
-mod missing;
-mod text;
-mod tree;
+mod laws;
 mod writing;
 mod written_change;
 mod written_texts;
 
-pub use line::{LINE_END, record_from_line};
+pub use cs_json_reading::{
+    LINE_END, line_readings_are_spellings, record_from_line, stamp_readings_are_spellings,
+};
 pub use writing::record_to_line;
-
-#[cfg(test)]
-mod tests;
-#[cfg(test)]
-mod writing_tests;

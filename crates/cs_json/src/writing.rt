@@ -3,9 +3,11 @@ ghost use Rattle.serde_json.specs.Data.{string, array};
 ghost use Rattle.serde_json.specs.View.{view, items_view, items_of};
 ghost use Rattle.cs_types.specs.Stamp.{IsStamp, stamp_text};
 ghost use Rattle.cs_types.specs.Token.{is_token};
-ghost use Rattle.cs_json.specs.Line.{Spells, line_end, line_reading};
-ghost use Rattle.cs_json.specs.Written.{heartbeat_data, child_data, children_data, line_data, record_data, record_line, CanStand, IsKeptChild, IsKept};
+ghost use Rattle.cs_json_reading.specs.Line.{Spells, line_end, line_reading};
+ghost use Rattle.cs_json_reading.specs.Standing.{CanStand};
+ghost use Rattle.cs_json.specs.Written.{heartbeat_data, child_data, children_data, line_data, record_data, record_line, IsKeptChild, IsKept};
 
+use crate::laws::written_trees_read_back;
 use crate::written_change::change_tree;
 use crate::written_texts::{eight_digits, stamp_tree};
 use cs_records::{Child, ChildRecord, Record};
@@ -27,7 +29,8 @@ pub fn record_to_line(alloc: Global, item: &Record) -> Result<Text, Memory>
 {
     let tree = record_tree(alloc, item)?;
     let text = tree.to_string(alloc)?;
-    let line = Text::of(alloc, text.as_str())?;
+    written_trees_read_back();
+    let line = Text::from_string(text)?;
     Ok(line)
 }
 

@@ -2,13 +2,11 @@ ghost use Rattle.std.specs.Prelude.{◌≡◌, ◌<◌, ◌^◌, IfOk, OnOk, All
 ghost use Rattle.serde_json.specs.Data.{array, object};
 ghost use Rattle.serde_json.specs.View.{view, items_of, members_view};
 ghost use Rattle.cs_types.specs.Stamp.{IsStamp};
-ghost use Rattle.cs_types.specs.declared.value.Value.TheVariants.{Bytes};
-ghost use Rattle.cs_types.specs.Value.{IsInRange, IsWithin, value_data};
-ghost use Rattle.cs_json.specs.Written.{type_data, column_data, cells_members, mod_data, last_members, change_data, AreKept, IsKeptMod};
+ghost use Rattle.cs_types.specs.Cells.{AreCells};
+ghost use Rattle.cs_json.specs.Written.{type_data, column_data, mod_data, last_members, change_data, IsKeptMod};
+ghost use Rattle.cs_types.specs.Texts.{cells_members};
 
-use crate::written_texts::{
-    capture_name, code_name, eight_digits, kind_name, stamp_tree, text_tree,
-};
+use crate::written_texts::{capture_name, code_name, eight_digits, stamp_tree, text_tree};
 use cs_records::{ColumnInfo, DataRecord, Mod};
 use cs_types::{Cells, ColumnType, Memory};
 use serde_json::{Map, Value, put};
@@ -23,7 +21,7 @@ pub(crate) fn change_tree(alloc: Global, item: &DataRecord) -> Result<Value, Mem
 {
     let columns = columns_tree(alloc, item.columns.as_slice())?;
     let stamp = stamp_tree(alloc, item.stamp)?;
-    let kind = text_tree(alloc, kind_name(item.kind))?;
+    let kind = text_tree(alloc, item.kind.name())?;
     let mods = mods_tree(alloc, item.mods.as_slice())?;
     let mut members = last_members(alloc, item)?;
     put(&mut members, alloc, "column_types", columns)?;
@@ -152,48 +150,13 @@ fn mod_tree(alloc: Global, item: &Mod) -> Result<Value, Memory>
 }
 
 fn cells_tree(alloc: Global, cells: &Cells) -> Result<Value, Memory>
-    ensures kept { OnOk result (AreKept cells.now) }
+    ensures kept { OnOk result (AreCells cells.now) }
     ensures value { IfOk result (λ v. view v ≡ object (cells_members cells.now)) }
 {
     let mut members = Map::new(alloc);
     for cell in cells.items() {
         let column = String::from_str(alloc, cell.column.as_str())?;
-        members.insert(column, value_tree(alloc, &cell.value)?)?;
+        members.insert(column, cell.value.to_tree(alloc)?)?;
     }
     Ok(Value::Object(members))
 }
-
-fn value_tree(alloc: Global, value: &cs_types::Value) -> Result<Value, Memory>
-    requires { IsInRange value.now }
-    ensures within { OnOk result (IsWithin value.now) }
-    ensures written { IfOk result (λ v. view v ≡ value_data value.now) }
-{
-    note_within(value);
-    let tree = value.to_tree(alloc)?;
-    Ok(tree)
-}
-
-/// Nothing but what the type says of a value.
-fn note_within(value: &cs_types::Value)
-    ensures { IsWithin value.now }
-{
-    match value {
-        cs_types::Value::Int64(number) => {
-            let _number = *number;
-        },
-        cs_types::Value::Bytes(bytes) => {
-            note_bytes(bytes.as_slice());
-        },
-        cs_types::Value::Null
-        | cs_types::Value::Bool(_)
-        | cs_types::Value::Numeric(_)
-        | cs_types::Value::Text(_)
-        | cs_types::Value::Date(_)
-        | cs_types::Value::Timestamp(_) => {},
-    }
-}
-
-/// Nothing but what the type says of bytes.
-fn note_bytes(_bytes: &[u8])
-    ensures { IsWithin (Bytes _bytes.now) }
-{}

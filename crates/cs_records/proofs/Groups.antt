@@ -1,7 +1,7 @@
 -- Records that are cut from the captured changes of a transaction tell just them.
-use Rattle.std.proofs.Common.{◌≡◌, ◌↔◌, ◌+◌, ◌<◌, ℕ, zero, suc, List, [], ◌∷◌, ◌++◌, length, get_or, map, Bool, true, false, refl, ap, ◌∙◌, sym, subst, arith, All}
+use Rattle.std.proofs.Common.{◌≡◌, ◌↔◌, ◌+◌, ◌<◌, ℕ, zero, suc, List, [], ◌∷◌, ◌++◌, length, drop, get_or, map, Bool, true, false, refl, ap, ◌∙◌, sym, subst, arith, All}
 use Rattle.std.specs.List.{AllByRecursion, flat_map}
-use Rattle.std.proofs.lemmas.List.{length-append, length-map, get_or_append_left, get_or-append-add, map-append}
+use Rattle.std.proofs.lemmas.List.{append_assoc, length-append, length-map, get_or_append_left, get_or-append-add, map-append}
 use Rattle.std.proofs.lemmas.List.Elements.{All-cons, All-nil, All-weaker, recursion_from_All}
 use Rattle.cs_types.specs.declared.change.Change.{Change}
 use Rattle.cs_records.specs.declared.captured.Captured.{Captured}
@@ -54,7 +54,7 @@ of_one_right xs ys h =
 all_alike : (first : Captured) (more : List Captured) → All (IsAlike first) more → All (IsAlike first) (first ∷ more)
 all_alike first more h = All-cons (IsAlike first) first more (itself first) h
 
-of_first : (first : Captured) (more after : List Captured) → AreOfOne (first ∷ (more ++ after)) → All (IsAlike first) more → All (OfOneRecord first) (first ∷ more)
+pub of_first : (first : Captured) (more after : List Captured) → AreOfOne (first ∷ (more ++ after)) → All (IsAlike first) more → All (OfOneRecord first) (first ∷ more)
 of_first first more after h alike =
     let each : All (λ b. IsAlike first b → OfOneRecord first b) ((first ∷ more) ++ after) = h 0 first (omega arith) in
     let group : All (λ b. IsAlike first b → OfOneRecord first b) (first ∷ more) = all_left (λ b. IsAlike first b → OfOneRecord first b) (first ∷ more) after each in
@@ -76,7 +76,7 @@ item_back n first c group after o = λ i. record {
   system = o.system i;
 }
 
-items_back : (n : ℕ) (first : Captured) (group after rest : List Captured) → AllByRecursion (OfOneRecord first) rest → map (item_of (record_of n first group after)) (map mod_of rest) ≡ rest
+pub items_back : (n : ℕ) (first : Captured) (group after rest : List Captured) → AllByRecursion (OfOneRecord first) rest → map (item_of (record_of n first group after)) (map mod_of rest) ≡ rest
 items_back n first group after [] h = refl
 items_back n first group after (c ∷ rest) h = λ i. item_back n first c group after h.0 i ∷ items_back n first group after rest h.1 i
 
@@ -173,10 +173,17 @@ records_of n items (r ∷ records) ones cut =
         (λ t. ap suc (there.0 t), λ e. there.1 (omega (arith, e)))
 
 -- the changes that the records tell
-changes_back : (r : DataRecord) (mods : List Mod) → map (λ (c : Captured). c.change) (map (item_of r) mods) ≡ map (change_of r) mods
+pub changes_back : (r : DataRecord) (mods : List Mod) → map (λ (c : Captured). c.change) (map (item_of r) mods) ≡ map (change_of r) mods
 changes_back r [] = refl
 changes_back r (m ∷ mods) = ap (λ (cs : List Change). change_of r m ∷ cs) (changes_back r mods)
 
 pub all_changes : (records : List DataRecord) → map (λ (c : Captured). c.change) (flat_map items_of records) ≡ flat_map changes_told records
 all_changes [] = refl
 all_changes (r ∷ records) = map-append (λ (c : Captured). c.change) (items_of r) (flat_map items_of records) ∙ (λ i. changes_back r r.mods i ++ all_changes records i)
+
+-- one record more, cut from the front of what is left
+pub cut_more : (first sequence at count : ℕ) (captured : List Captured) (done : List DataRecord) (r : DataRecord) → IsNext sequence (drop at captured) (drop (at + count) captured) r
+    → ((more : List DataRecord) → AreCut sequence (drop at captured) more → AreCut first captured (done ++ more))
+    → (more : List DataRecord) → AreCut (sequence + 1) (drop (at + count) captured) more → AreCut first captured ((done ++ r ∷ []) ++ more)
+cut_more first sequence at count captured done r next had more cut =
+    subst (AreCut first captured) (sym (append_assoc done (r ∷ []) more)) (had (r ∷ more) (drop (at + count) captured, next, cut))

@@ -1,6 +1,6 @@
 pub mod Cutting
 pub mod Groups
-pub mod Inserts
+pub mod Runs
 pub mod SameColumns
 pub mod Seen
 pub mod Sound

@@ -1,20 +1,19 @@
 -- Captured changes that are alike have the same columns.
-use Rattle.std.proofs.Common.{◌≡◌, ◌<◌, ℕ, List, [], ◌∷◌, length, get_or, map, Bool, true, false, ◌||◌, ◌⊎◌, inl, inr, is_eq, nat_cmp, refl, ap, ◌∙◌, sym, subst}
+use Rattle.std.proofs.Common.{◌≡◌, ◌<◌, ℕ, List, [], ◌∷◌, length, get_or, map, Bool, true, false, cond, ◌||◌, ◌⊎◌, inl, inr, nat_cmp, refl, ap, ◌∙◌, sym, subst}
 use Rattle.std.specs.declared.cmp.Ordering.TheVariants.{Less, Equal}
 use Rattle.std.specs.Cmp.{nat_cmp_total}
-use Rattle.std.specs.Cmp.Lexicographic.{slice_cmp}
 use Rattle.std.specs.List.{AllByRecursion}
 use Rattle.std.specs.List.Sorted.{IsStrictlySortedBy}
 use Rattle.std.proofs.lemmas.Cmp.{tied_itself}
 use Rattle.std.proofs.lemmas.List.{get_or-map, length-map}
 use Rattle.std.proofs.lemmas.List.Elements.{recursion_from_All}
-use Rattle.std.proofs.lemmas.List.Folds.{list_any_at}
 use Rattle.std.proofs.lemmas.Map.Keys.{sorted_from_strictly_increasing}
 use Rattle.cs_records.specs.declared.captured.Captured.{Captured}
 use Rattle.cs_records.specs.declared.captured.ColumnInfo.{ColumnInfo}
-use Rattle.cs_records.specs.Columns.{columns_of, is_among}
+use Rattle.cs_types.specs.Names.{is_same, is_among, columns_of}
 use Rattle.cs_records.specs.Group.{Agree, HasItsColumns, IsAlike}
 use Rattle.cs_records.proofs.Cutting.{same_bytes}
+use Rattle.cs_records.proofs.Seen.{among_at}
 
 abbrev Among : ColumnInfo → List ColumnInfo → Type 0
 Among x [] = ⊥
@@ -71,28 +70,27 @@ same_lists (x ∷ xs) (y ∷ ys) s t a b =
 abbrev Named : List ℕ → List ColumnInfo → Type 0
 Named name ys = (y : ColumnInfo) × Among y ys × (name ≡ y.name)
 
-found_in : (name : List ℕ) (y : ColumnInfo) (ys : List ColumnInfo) (b : Bool) → is_eq (slice_cmp nat_cmp name y.name) ≡ b → (is_among (map (λ (c : ColumnInfo). c.name) ys) name ≡ true → Named name ys)
-    → (b || is_among (map (λ (c : ColumnInfo). c.name) ys) name) ≡ true → Named name (y ∷ ys)
-found_in name y ys true e later h = (y, inl refl, (same_bytes name y.name).0 e)
+found_in : (name : List ℕ) (y : ColumnInfo) (ys : List ColumnInfo) (b : Bool) → is_same y.name name ≡ b → (is_among name (map (λ (c : ColumnInfo). c.name) ys) ≡ true → Named name ys)
+    → cond b true (is_among name (map (λ (c : ColumnInfo). c.name) ys)) ≡ true → Named name (y ∷ ys)
+found_in name y ys true e later h = (y, inl refl, sym ((same_bytes y.name name).0 e))
 found_in name y ys false e later h = let f = later h in (f.0, inr f.1, f.2)
 
-found : (name : List ℕ) (ys : List ColumnInfo) → is_among (map (λ (c : ColumnInfo). c.name) ys) name ≡ true → Named name ys
+found : (name : List ℕ) (ys : List ColumnInfo) → is_among name (map (λ (c : ColumnInfo). c.name) ys) ≡ true → Named name ys
 found name [] h = cc
-found name (y ∷ ys) h = found_in name y ys (is_eq (slice_cmp nat_cmp name y.name)) refl (found name ys) h
+found name (y ∷ ys) h = found_in name y ys (is_same y.name name) refl (found name ys) h
 
 -- a column of a captured change is named in what the change tells of
-named : (columns : List ColumnInfo) (k : ℕ) (d : ColumnInfo) → k < length columns → is_among (map (λ (c : ColumnInfo). c.name) columns) (get_or columns k d).name ≡ true
+named : (columns : List ColumnInfo) (k : ℕ) (d : ColumnInfo) → k < length columns → is_among (get_or columns k d).name (map (λ (c : ColumnInfo). c.name) columns) ≡ true
 named columns k d lt =
-    let names : List (List ℕ) = map (λ (c : ColumnInfo). c.name) columns in
     let at : get_or (map (λ (c : ColumnInfo). c.name) columns) k [] ≡ (get_or columns k d).name = get_or-map (λ (c : ColumnInfo). c.name) columns k d [] lt in
-    list_any_at (λ n. is_eq (slice_cmp nat_cmp (get_or columns k d).name n)) (map (λ (c : ColumnInfo). c.name) columns) k [] (rw length-map lt) ((same_bytes (get_or columns k d).name (get_or (map (λ (c : ColumnInfo). c.name) columns) k [])).1 (sym at))
+    ap (λ (n : List ℕ). is_among n (map (λ (c : ColumnInfo). c.name) columns)) (sym at) ∙ among_at (map (λ (c : ColumnInfo). c.name) columns) k [] (rw length-map lt)
 
 each_among : (a b : Captured) → Agree a b → HasItsColumns a → HasItsColumns b → IsAlike a b → AllByRecursion (λ x. Among x b.columns) a.columns
 each_among a b agree of_a of_b alike = recursion_from_All (λ x. Among x b.columns) a.columns (λ k d lt.
     let x : ColumnInfo = get_or a.columns k d in
     let key : columns_of a.change.row.key ≡ columns_of b.change.row.key = agree.key alike.table in
-    let told : is_among (map (λ (c : ColumnInfo). c.name) b.columns) (get_or a.columns k d).name ≡ is_among (map (λ (c : ColumnInfo). c.name) a.columns) (get_or a.columns k d).name = of_b.each (get_or a.columns k d).name
-    ∙ sym (of_a.each (get_or a.columns k d).name ∙ (λ i. is_among (key i) (get_or a.columns k d).name || (is_among (alike.new i) (get_or a.columns k d).name || is_among (alike.old i) (get_or a.columns k d).name))) in
+    let told : is_among (get_or a.columns k d).name (map (λ (c : ColumnInfo). c.name) b.columns) ≡ is_among (get_or a.columns k d).name (map (λ (c : ColumnInfo). c.name) a.columns) = of_b.each (get_or a.columns k d).name
+    ∙ sym (of_a.each (get_or a.columns k d).name ∙ (λ i. is_among (get_or a.columns k d).name (key i) || (is_among (get_or a.columns k d).name (alike.new i) || is_among (get_or a.columns k d).name (alike.old i)))) in
     let there = found (get_or a.columns k d).name b.columns (told ∙ named a.columns k d lt) in
     let says : AllByRecursion (λ y. (get_or a.columns k d).name ≡ y.name → get_or a.columns k d ≡ y) b.columns = recursion_from_All (λ (y : ColumnInfo). (get_or a.columns k d).name ≡ y.name → get_or a.columns k d ≡ y) b.columns (agree.columns alike.table k d lt) in
     let same : get_or a.columns k d ≡ there.0 = among_all (λ (y : ColumnInfo). (get_or a.columns k d).name ≡ y.name → get_or a.columns k d ≡ y) there.0 b.columns says there.1 there.2 in

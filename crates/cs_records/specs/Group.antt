@@ -1,8 +1,9 @@
 -- How the captured changes of a transaction form data records, as this project groups them: neighbours that tell of the same columns share one, 32 at most.
 use Rattle.std.specs.Prelude.{◌≡◌, ◌↔◌, ◌+◌, ◌<◌, ◌≤◌, ℕ, suc, List, [], ◌∷◌, ◌++◌, map, length, get_or, Bool, true, false, ◌||◌, IsTrue, All}
-use Rattle.std.specs.List.{flat_map}
+use Rattle.std.specs.List.{IsDistinct, flat_map}
 use Rattle.std.specs.List.Sorted.{IsStrictlyIncreasing}
-use Rattle.cs_records.specs.Columns.{columns_of, is_among}
+use Rattle.cs_types.specs.Names.{columns_of, is_among}
+use Rattle.cs_types.specs.Row.{same_row}
 use Rattle.cs_records.specs.Told.{change_of}
 use Rattle.cs_records.specs.declared.captured.Captured.{Captured}
 use Rattle.cs_records.specs.declared.records.DataRecord.{DataRecord}
@@ -23,9 +24,9 @@ pub record Agree (a b : Captured) : Type 0 where
 -- the columns of a captured change are those that its change tells of
 pub record HasItsColumns (c : Captured) : Type 0 where
   -- those of the key and those of the new and the old cells
-  pub each : (name : List ℕ) → is_among (map (λ x. x.name) c.columns) name ≡ (is_among (columns_of c.change.row.key) name || (is_among (columns_of c.change.new) name || is_among (columns_of c.change.old) name))
+  pub each : (name : List ℕ) → is_among name (map (λ x. x.name) c.columns) ≡ (is_among name (columns_of c.change.row.key) || (is_among name (columns_of c.change.new) || is_among name (columns_of c.change.old)))
   -- those of the key alone are marked as key
-  pub marked : All (λ x. x.is_key ≡ is_among (columns_of c.change.row.key) x.name) c.columns
+  pub marked : All (λ x. x.is_key ≡ is_among x.name (columns_of c.change.row.key)) c.columns
   -- their ordinals rise
   pub rising : IsStrictlyIncreasing (map (λ x. x.ordinal) c.columns)
 
@@ -35,6 +36,13 @@ pub record IsAlike (a b : Captured) : Type 0 where
   pub kind : a.change.kind ≡ b.change.kind
   pub new : columns_of a.change.new ≡ columns_of b.change.new
   pub old : columns_of a.change.old ≡ columns_of b.change.old
+
+-- captured changes of one transaction, no two of one row, each with its columns, which are all alike: they may share a record
+pub record IsRun (first : Captured) (more : List Captured) : Type 0 where
+  pub agree : All (λ a. All (λ b. Agree a b) (first ∷ more)) (first ∷ more)
+  pub rows : IsDistinct same_row (map (λ c. c.change.row) (first ∷ more))
+  pub columns : All HasItsColumns (first ∷ more)
+  pub alike : All (IsAlike first) more
 
 -- the captured change that a record tells by one of its mods
 abbrev pub item_of : DataRecord → Mod → Captured

@@ -8,7 +8,8 @@ use Rattle.cs_types.specs.Order.{cells_cmp}
 use Rattle.cs_types.specs.declared.cells.Cell.{Cell}
 use Rattle.cs_types.specs.declared.change.Change.{Change}
 use Rattle.cs_types.specs.declared.change.RowName.{RowName}
-use Rattle.cs_records.specs.Columns.{columns_of, key_columns, first_beyond}
+use Rattle.cs_types.specs.Names.{columns_of}
+use Rattle.cs_records.specs.Columns.{key_columns, first_beyond}
 use Rattle.cs_records.specs.declared.faults.RecordFault.{RecordFault}
 use Rattle.cs_records.specs.declared.faults.RecordFault.TheVariants.{KeyMissing, KeyTwice, Memory}
 use Rattle.cs_records.specs.declared.records.DataRecord.{DataRecord}
@@ -44,13 +45,13 @@ abbrev pub keys_of : List Mod → List (List Cell)
 keys_of mods = map (λ m. m.keys) mods
 
 -- the first key of a list that stands among the earlier ones
-abbrev pub first_again : List (List Cell) → List (List Cell) → Option (List Cell)
-first_again earlier [] = None
-first_again earlier (k ∷ ks) = cond (has_key earlier k) (Some k) (first_again (earlier ++ k ∷ []) ks)
+abbrev pub first_key_again : List (List Cell) → List (List Cell) → Option (List Cell)
+first_key_again earlier [] = None
+first_key_again earlier (k ∷ ks) = cond (has_key earlier k) (Some k) (first_key_again (earlier ++ k ∷ []) ks)
 
 -- why a data record's mods are no changes: a mod without the right key, and else a key that an earlier mod has
 abbrev pub record_fault : DataRecord → Option RecordFault
-record_fault r = option_or (option_map KeyMissing (first_key_fault (key_columns r.columns) r.mods)) (option_map (λ key. KeyTwice (row_of r key)) (first_again [] (keys_of r.mods)))
+record_fault r = option_or (option_map KeyMissing (first_key_fault (key_columns r.columns) r.mods)) (option_map (λ key. KeyTwice (row_of r key)) (first_key_again [] (keys_of r.mods)))
 
 -- whether a fault is one of the two, and not want of memory
 abbrev pub not_memory : RecordFault → Type 0

@@ -1,11 +1,10 @@
 ghost use Rattle.std.specs.Prelude.{◌≡◌, [], Some, None, IfOk, MatchResult};
 ghost use Rattle.std.specs.Option.{option_map};
-ghost use Rattle.cs_records.specs.Columns.{columns_of, key_columns};
-ghost use Rattle.cs_records.specs.Told.{row_of, change_of, changes_told, key_fault, first_key_fault, keys_of, first_again, record_fault, not_memory};
+ghost use Rattle.cs_records.specs.Told.{row_of, change_of, changes_told, keys_of, first_key_again, record_fault, not_memory};
 
-use crate::names::Names;
+use crate::keys::check_keys;
 use crate::{DataRecord, Mod, RecordFault};
-use cs_types::{Cells, Change, Duplicate, Items, Memory, RowName, Text};
+use cs_types::{Cells, Change, Duplicate, Items, Memory, RowName};
 use std::alloc::Global;
 use std::collections::BTreeSet;
 
@@ -26,32 +25,9 @@ pub fn changes_of(alloc: Global, item: &DataRecord) -> Result<Items<Change>, Rec
     Ok(changes)
 }
 
-fn check_keys(alloc: Global, item: &DataRecord) -> Result<(), RecordFault>
-    ensures { MatchResult result (λ _. first_key_fault (key_columns item.now.columns) item.now.mods ≡ None)
-        (λ e. not_memory e → option_map RecordFault.KeyMissing (first_key_fault (key_columns item.now.columns) item.now.mods) ≡ Some e) }
-{
-    let columns = Names::of_key(alloc, item.columns.as_slice())?;
-    for one in item.mods.as_slice() {
-        if let Some(column) = key_fault(alloc, &columns, one)? {
-            return Err(RecordFault::KeyMissing(column));
-        }
-    }
-    Ok(())
-}
-
-fn key_fault(alloc: Global, columns: &Names, one: &Mod) -> Result<Option<Text>, Memory>
-    ensures { IfOk result (λ n. n ≡ key_fault columns.now (columns_of one.now.keys)) }
-{
-    let key = Names::of_cells(alloc, one.keys.items())?;
-    if let Some(name) = columns.first_beyond(&key)? {
-        return Ok(Some(name));
-    }
-    key.first_beyond(columns)
-}
-
 fn check_rows(alloc: Global, item: &DataRecord) -> Result<(), RecordFault>
-    ensures { MatchResult result (λ _. first_again [] (keys_of item.now.mods) ≡ None)
-        (λ e. not_memory e → option_map (λ key. RecordFault.KeyTwice (row_of item.now key)) (first_again [] (keys_of item.now.mods)) ≡ Some e) }
+    ensures { MatchResult result (λ _. first_key_again [] (keys_of item.now.mods) ≡ None)
+        (λ e. not_memory e → option_map (λ key. RecordFault.KeyTwice (row_of item.now key)) (first_key_again [] (keys_of item.now.mods)) ≡ Some e) }
 {
     let mut seen: BTreeSet<Cells> = BTreeSet::new(alloc);
     for one in item.mods.as_slice() {

@@ -1,4 +1,4 @@
-use cs_types::{Memory, RowName, Text};
+use cs_types::{Duplicate, Memory, RowName, Text};
 use std::alloc::{AllocError, AllocFailed};
 
 /// Why a line is no record. The refusals are numbered in the order in which they are tried.
@@ -16,6 +16,19 @@ pub enum LineFault {
     TooLong,
     /// There was not enough memory. It has no number.
     Memory,
+}
+
+impl Duplicate for LineFault {
+    fn copy(&self) -> Result<LineFault, Memory> {
+        match self {
+            LineFault::NotJson => Ok(LineFault::NotJson),
+            LineFault::Member(name) => Ok(LineFault::Member(name.copy()?)),
+            LineFault::ArrayCount => Ok(LineFault::ArrayCount),
+            LineFault::BadValue(name) => Ok(LineFault::BadValue(name.copy()?)),
+            LineFault::TooLong => Ok(LineFault::TooLong),
+            LineFault::Memory => Ok(LineFault::Memory),
+        }
+    }
 }
 
 impl From<Memory> for LineFault {
@@ -60,6 +73,16 @@ pub enum RecordFault {
     KeyTwice(RowName),
     /// There was not enough memory. It has no number.
     Memory,
+}
+
+impl Duplicate for RecordFault {
+    fn copy(&self) -> Result<RecordFault, Memory> {
+        match self {
+            RecordFault::KeyMissing(column) => Ok(RecordFault::KeyMissing(column.copy()?)),
+            RecordFault::KeyTwice(row) => Ok(RecordFault::KeyTwice(row.copy()?)),
+            RecordFault::Memory => Ok(RecordFault::Memory),
+        }
+    }
 }
 
 impl From<Memory> for RecordFault {

@@ -2,12 +2,12 @@ ghost use Rattle.std.specs.Prelude.{◌≡◌, ◌↔◌, ◌+◌, ◌<◌, ◌�
 ghost use Rattle.std.specs.List.{IsDistinct, flat_map};
 ghost use Rattle.cs_types.specs.Row.{same_row};
 ghost use Rattle.cs_records.specs.declared.captured.Captured.{Captured};
-ghost use Rattle.cs_records.specs.Columns.{columns_of};
 ghost use Rattle.cs_records.specs.Told.{changes_told, record_fault};
 ghost use Rattle.cs_records.specs.Group.{Agree, HasItsColumns, IsAlike, AreRecordsOf, IsNext, AreCut, is_nil, mod_of};
 
+use crate::keys::same_columns;
 use crate::{Captured, DataRecord, Mod};
-use cs_types::{Cell, Duplicate, Items, Memory, Text};
+use cs_types::{Duplicate, Items, Memory};
 use std::alloc::Global;
 
 /// The most mods of a record, less the first.
@@ -53,10 +53,10 @@ fn cut(
     let mut sequence = next_sequence;
     let mut at = 0;
     while at < captured.len() {
-        let record = next_record(alloc, captured, at, sequence)?;
-        at += record.mods.as_slice().len();
+        let next = next_record(alloc, captured, at, sequence)?;
+        at += next.mods.as_slice().len();
         sequence += 1;
-        records.push(record)?;
+        records.push(next)?;
     }
     Ok(records)
 }
@@ -111,7 +111,8 @@ fn mods_of(alloc: Global, first: &Captured, more: &[Captured]) -> Result<Items<M
     Ok(mods)
 }
 
-fn mod_of(item: &Captured) -> Result<Mod, Memory>
+/// What a record holds of a captured change.
+pub fn mod_of(item: &Captured) -> Result<Mod, Memory>
     ensures { IfOk result (λ m. m ≡ mod_of item.now) }
 {
     Ok(Mod {
@@ -143,28 +144,8 @@ fn run_length(first: &Captured, more: &[Captured]) -> usize
 fn are_alike(a: &Captured, b: &Captured) -> bool
     ensures { IsTrue result ↔ IsAlike a.now b.now }
 {
-    same_text(&a.change.row.table, &b.change.row.table)
+    a.change.row.table.is(&b.change.row.table)
         && a.change.kind == b.change.kind
         && same_columns(a.change.new.items(), b.change.new.items())
         && same_columns(a.change.old.items(), b.change.old.items())
-}
-
-fn same_columns(a: &[Cell], b: &[Cell]) -> bool
-    ensures { IsTrue result ↔ (columns_of a.now ≡ columns_of b.now) }
-{
-    if a.len() != b.len() {
-        return false;
-    }
-    for (i, cell) in a.iter().enumerate() {
-        if !same_text(&cell.column, &b[i].column) {
-            return false;
-        }
-    }
-    true
-}
-
-fn same_text(a: &Text, b: &Text) -> bool
-    ensures { IsTrue result ↔ (a.now ≡ b.now) }
-{
-    a.cmp(b).is_eq()
 }

@@ -1,4 +1,4 @@
-use Rattle.std.proofs.Common.{rules, ◌≡◌, ◌+◌, ◌≤◌, ◌∷◌, take, drop, length, map, ◌∙◌, All}
+use Rattle.std.proofs.Common.{rules, ◌≡◌, ◌+◌, ◌≤◌, ◌∷◌, take, drop, length, map, All}
 use Rattle.cs_records.specs.Group.{IsAlike, mod_of, is_nil}
 use Rattle.cs_records.proofs.Cutting.{next_is}
 use Rattle.cs_records.proofs.grouping.next_record.Goals as goal

@@ -1,0 +1,14 @@
+pub mod Stamps
+pub mod Numbers
+pub mod Again
+pub mod CellsMore
+pub mod Mods
+pub mod Lines
+pub mod Spelled
+pub mod Told
+pub mod ChildrenTold
+pub mod ColumnsTold
+pub mod ChangesTold
+pub mod LinesTold
+pub mod OfType
+pub mod Writable

@@ -1,6 +1,0 @@
-use Rattle.std.proofs.Common.{◌≡◌, drop}
-use Rattle.cs_records.specs.Columns.{first_beyond}
-use Rattle.cs_records.proofs.names.Names.first_beyond.Given as goal
-
-abbrev pub invariant-loop-name : goal.invariant-loop-name
-invariant-loop-name l = first_beyond l.others (drop l.name-index l.self) ≡ first_beyond l.others l.self

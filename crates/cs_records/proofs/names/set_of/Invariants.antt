@@ -1,6 +1,0 @@
-use Rattle.std.proofs.Common.{take}
-use Rattle.cs_records.specs.Columns.{HoldsNames}
-use Rattle.cs_records.proofs.names.set_of.Given as goal
-
-abbrev pub invariant-loop-name : goal.invariant-loop-name
-invariant-loop-name l = HoldsNames (take l.name-index l.names) l.set
