@@ -1,14 +1,13 @@
 -- The verdict against what a good and a complete output is.
-use Rattle.std.proofs.Common.{◌≡◌, ◌⊎◌, ◌↔◌, ℕ, List, [], ◌∷◌, ◌++◌, Contains, get_or, refl, sym, ap, subst, ◌∙◌, inl, inr, ◌<◌, arith}
+use Rattle.std.proofs.Common.{◌≡◌, ◌⊎◌, ◌↔◌, ℕ, List, [], ◌∷◌, ◌++◌, All, Contains, get_or, refl, sym, ap, subst, ◌∙◌, inl, inr, ◌<◌, ◌≤◌, arith}
 use Rattle.std.proofs.lemmas.List.Elements.{All-contains, Contains-get_or}
 use Rattle.std.specs.List.{AllZip}
 use Rattle.cs_types.specs.Stamp.{IsStamp}
 use Rattle.cs_types.specs.declared.change.Change.{Change}
-use Rattle.cs_output.specs.Output.{Line as Meaning, of_change, of_watermark, changes_of_lines, AreComplete, IsGood, IsComplete}
-use Rattle.cs_output.specs.Reading.{Means, AreLinesOf}
+use Rattle.cs_output.specs.Output.{Line as Meaning, of_change, of_watermark, text_of_lines, changes_of_lines, watermarks_of_lines, AreComplete, IsGood, IsComplete}
+use Rattle.cs_output.specs.Reading.{IsReadable, Means, AreLinesOf, text_of_read}
 use Rattle.cs_output.specs.declared.reading.Line.{Line}
 use Rattle.cs_output.specs.declared.reading.Line.TheVariants.{Watermark, Change as Told}
-use Rattle.cs_output.proofs.Meanings.{same_text, one_meaning}
 use Rattle.cs_audit.specs.Audit.{HasNoOffence, IsRight, IsExtra, IsOutOfOrder, IsEarly, IsBack, IsNext, IsDone, IsVerdict, SaysPrefix, IsAbove, last_watermark}
 use Rattle.cs_audit.specs.Index.{DifferInLines}
 use Rattle.cs_audit.specs.declared.verdict.Verdict.{Verdict}
@@ -61,19 +60,28 @@ complete_done lines wanted end (meanings, all, complete) = record {
   ended = last_read lines complete.ended.0 end (subst (AllZip Means lines) complete.ended.1 all);
 }
 
+-- what the law of lines says: lines and what they mean have one text, and a text has one meaning
+abbrev pub MeaningsAreTold : Type 0
+MeaningsAreTold = (lines : List Line) (meanings : List Meaning) → AllZip Means lines meanings → text_of_read lines ≡ text_of_lines meanings
+
+abbrev pub MeaningsAreOne : Type 0
+MeaningsAreOne =
+    (end : ℕ) (lines : List Line) (meanings : List Meaning) → IsStamp end → All (λ at. at ≤ end) (watermarks_of_lines meanings) → All IsReadable lines
+    → text_of_read lines ≡ text_of_lines meanings → AllZip Means lines meanings
+
 -- the text
 
-good_text : (bytes : List ℕ) (lines : List Line) (wanted : List Change) (end : ℕ) → IsStamp end → AreLinesOf bytes lines → IsGood bytes wanted end → AreGoodLines lines wanted end
-good_text bytes lines wanted end is are (meanings, text, good) = (meanings, one_meaning end lines meanings is good.up_to_end are.each (sym are.text ∙ text), good)
+good_text : (one_meaning : MeaningsAreOne) (bytes : List ℕ) (lines : List Line) (wanted : List Change) (end : ℕ) → IsStamp end → AreLinesOf bytes lines → IsGood bytes wanted end → AreGoodLines lines wanted end
+good_text one_meaning bytes lines wanted end is are (meanings, text, good) = (meanings, one_meaning end lines meanings is good.up_to_end are.each (sym are.text ∙ text), good)
 
-text_good : (bytes : List ℕ) (lines : List Line) (wanted : List Change) (end : ℕ) → AreLinesOf bytes lines → AreGoodLines lines wanted end → IsGood bytes wanted end
-text_good bytes lines wanted end are (meanings, all, good) = (meanings, are.text ∙ same_text lines meanings all, good)
+text_good : (same_text : MeaningsAreTold) (bytes : List ℕ) (lines : List Line) (wanted : List Change) (end : ℕ) → AreLinesOf bytes lines → AreGoodLines lines wanted end → IsGood bytes wanted end
+text_good same_text bytes lines wanted end are (meanings, all, good) = (meanings, are.text ∙ same_text lines meanings all, good)
 
-complete_text : (bytes : List ℕ) (lines : List Line) (wanted : List Change) (end : ℕ) → IsStamp end → AreLinesOf bytes lines → IsComplete bytes wanted end → AreCompleteLines lines wanted end
-complete_text bytes lines wanted end is are (meanings, text, complete) = (meanings, one_meaning end lines meanings is complete.good.up_to_end are.each (sym are.text ∙ text), complete)
+complete_text : (one_meaning : MeaningsAreOne) (bytes : List ℕ) (lines : List Line) (wanted : List Change) (end : ℕ) → IsStamp end → AreLinesOf bytes lines → IsComplete bytes wanted end → AreCompleteLines lines wanted end
+complete_text one_meaning bytes lines wanted end is are (meanings, text, complete) = (meanings, one_meaning end lines meanings is complete.good.up_to_end are.each (sym are.text ∙ text), complete)
 
-text_complete : (bytes : List ℕ) (lines : List Line) (wanted : List Change) (end : ℕ) → AreLinesOf bytes lines → AreCompleteLines lines wanted end → IsComplete bytes wanted end
-text_complete bytes lines wanted end are (meanings, all, complete) = (meanings, are.text ∙ same_text lines meanings all, complete)
+text_complete : (same_text : MeaningsAreTold) (bytes : List ℕ) (lines : List Line) (wanted : List Change) (end : ℕ) → AreLinesOf bytes lines → AreCompleteLines lines wanted end → IsComplete bytes wanted end
+text_complete same_text bytes lines wanted end are (meanings, all, complete) = (meanings, are.text ∙ same_text lines meanings all, complete)
 
 -- an offence is not right
 
@@ -119,12 +127,12 @@ complete_of : (v : Verdict) (lines : List Line) (wanted : List Change) (end : �
 complete_of v lines wanted end is e = subst (λ w. IsVerdict w lines wanted end) e is
 
 -- the two equivalences
-module _ (v : Verdict) (bytes : List ℕ) (lines : List Line) (wanted : List Change) (end : ℕ) (differ : DifferInLines wanted) (stamp : IsStamp end) (is : IsVerdict v lines wanted end) (are : AreLinesOf bytes lines) where
+module _ (same_text : MeaningsAreTold) (one_meaning : MeaningsAreOne) (v : Verdict) (bytes : List ℕ) (lines : List Line) (wanted : List Change) (end : ℕ) (differ : DifferInLines wanted) (stamp : IsStamp end) (is : IsVerdict v lines wanted end) (are : AreLinesOf bytes lines) where
   pub complete_exactly : (v ≡ Complete) ↔ IsComplete bytes wanted end
   complete_exactly = (
-    (λ e. let (none, done) = complete_of v lines wanted end is e in text_complete bytes lines wanted end are (done_complete lines wanted end differ none done)),
+    (λ e. let (none, done) = complete_of v lines wanted end is e in text_complete same_text bytes lines wanted end are (done_complete lines wanted end differ none done)),
     λ complete.
-        let whole = complete_text bytes lines wanted end stamp are complete in
+        let whole = complete_text one_meaning bytes lines wanted end stamp are complete in
         let none = no_offence_of_good lines wanted end differ (whole.0, whole.1, whole.2.good) in
         by (complete_done lines wanted end whole) (offends v lines wanted end differ is none),
   )
@@ -137,8 +145,8 @@ module _ (v : Verdict) (bytes : List ℕ) (lines : List Line) (wanted : List Cha
   prefix_exactly = (
     (λ says.
         let (none, unfinished) = prefix_of v lines wanted end is says in
-        (text_good bytes lines wanted end are (good_without_offence lines wanted end differ none), λ complete. unfinished (complete_done lines wanted end (complete_text bytes lines wanted end stamp are complete)))),
-    λ (good, unfinished). by unfinished (offends v lines wanted end differ is (no_offence_of_good lines wanted end differ (good_text bytes lines wanted end stamp are good))),
+        (text_good same_text bytes lines wanted end are (good_without_offence lines wanted end differ none), λ complete. unfinished (complete_done lines wanted end (complete_text one_meaning bytes lines wanted end stamp are complete)))),
+    λ (good, unfinished). by unfinished (offends v lines wanted end differ is (no_offence_of_good lines wanted end differ (good_text one_meaning bytes lines wanted end stamp are good))),
   )
     where
       by : (IsComplete bytes wanted end → ⊥) → (SaysPrefix v) ⊎ (v ≡ Complete) → SaysPrefix v

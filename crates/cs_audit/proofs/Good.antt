@@ -9,7 +9,7 @@ use Rattle.cs_types.specs.Change.{of_row}
 use Rattle.cs_types.specs.Row.{same_row}
 use Rattle.cs_types.specs.declared.change.Change.{Change}
 use Rattle.cs_types.specs.declared.change.RowName.{RowName}
-use Rattle.cs_types.proofs.SameRow.{same_row-is}
+use Rattle.cs_types.specs.Exact.{same_row-is}
 use Rattle.cs_output.specs.Line.{change_line}
 use Rattle.cs_output.specs.Output.{Line as Meaning, of_change, of_watermark, changes_of_lines, watermarks_of_lines, IsPrefix, AreGood}
 use Rattle.cs_output.specs.Reading.{Means}

@@ -15,7 +15,7 @@ use Rattle.std.proofs.lemmas.List.Sorted.{All-permutation, Contains-permutation}
 use Rattle.cs_types.specs.Row.{row_cmp}
 use Rattle.cs_types.specs.declared.change.Change.{Change}
 use Rattle.cs_types.specs.declared.change.RowName.{RowName}
-use Rattle.cs_types.proofs.SameRow.{same_row-is}
+use Rattle.cs_types.specs.Exact.{same_row-is}
 use Rattle.cs_output.specs.Line.{change_line}
 use Rattle.cs_audit.specs.declared.conditions.Name.{Name}
 use Rattle.cs_audit.specs.Index.{DifferBy, DifferInLines, ArePlacesBy, name_cmp, IsLatest, ArePrevious, AreEntries}

@@ -6,4 +6,5 @@ pub mod Indexing
 pub mod Lines
 pub mod Next
 pub mod Offences
+pub mod OwnLines
 pub mod Standing

@@ -1,15 +1,19 @@
 -- Two wanted changes have two lines, where the conditions hold; and where two lines differ, the first condition does.
-use Rattle.std.proofs.Common.{List, get_or, arith, ap}
+use Rattle.std.proofs.Common.{◌≡◌, List, get_or, arith, ap}
 use Rattle.std.proofs.lemmas.List.Elements.{Contains-get_or}
 use Rattle.cs_types.specs.declared.change.Change.{Change}
-use Rattle.cs_output.proofs.ChangeLines.{same_tx}
+use Rattle.cs_output.specs.Line.{change_line}
 use Rattle.cs_audit.specs.Audit.{HaveOwnLines, AreApart}
 use Rattle.cs_audit.specs.declared.conditions.Name.{Name}
 use Rattle.cs_audit.specs.Index.{DifferBy, DifferInLines, name_of}
 use Rattle.cs_audit.proofs.Good.{same_change}
 
-pub differ_in_lines : (wanted : List Change) → HaveOwnLines wanted → AreApart wanted → DifferInLines wanted
-differ_in_lines wanted own apart = λ i j d less within same.
+-- equal lines tell one transaction, as the law of lines says
+abbrev pub LinesTellTransactions : Type 0
+LinesTellTransactions = (c d : Change) → change_line c ≡ change_line d → c.tx ≡ d.tx
+
+pub differ_in_lines : LinesTellTransactions → (wanted : List Change) → HaveOwnLines wanted → AreApart wanted → DifferInLines wanted
+differ_in_lines same_tx wanted own apart = λ i j d less within same.
     apart i j d less within (own (get_or wanted i d) (get_or wanted j d) (Contains-get_or wanted i d (omega (arith, less, within))) (Contains-get_or wanted j d within) same)
     (same_tx (get_or wanted i d) (get_or wanted j d) same)
 

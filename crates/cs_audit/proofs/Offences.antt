@@ -7,7 +7,7 @@ use Rattle.std.proofs.lemmas.List.Elements.{All-contains, Contains-append_left, 
 use Rattle.cs_types.specs.Change.{of_row}
 use Rattle.cs_types.specs.Row.{same_row}
 use Rattle.cs_types.specs.declared.change.Change.{Change}
-use Rattle.cs_types.proofs.SameRow.{same_row-is}
+use Rattle.cs_types.specs.Exact.{same_row-is}
 use Rattle.cs_output.specs.Line.{change_line}
 use Rattle.cs_output.specs.Output.{Line as Meaning, of_change, of_watermark, changes_of_lines, watermarks_of_lines, AreGood}
 use Rattle.cs_output.specs.Reading.{Means}

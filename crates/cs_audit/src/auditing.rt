@@ -9,7 +9,7 @@ ghost use Rattle.cs_output.specs.declared.reading.Line.{Line};
 use crate::Verdict;
 use crate::index::index_of;
 use crate::seen::{Offence, has_all, nothing_seen};
-use cs_output::Line;
+use cs_output::{Line, lines_have_one_meaning, lines_tell_changes};
 use cs_types::{Change, Duplicate, Memory, Stamp};
 use std::alloc::Global;
 
@@ -40,6 +40,8 @@ pub fn audit(
     ensures complete { (bytes : List ℕ) → AreLinesOf bytes lines.now → IfOk result (λ v. (v ≡ Verdict.Complete) ↔ IsComplete bytes wanted.now end) }
     ensures prefix { (bytes : List ℕ) → AreLinesOf bytes lines.now → IfOk result (λ v. SaysPrefix v ↔ (IsGood bytes wanted.now end × (IsComplete bytes wanted.now end → ⊥))) }
 {
+    lines_tell_changes();
+    lines_have_one_meaning();
     prove!(end.us() <= Stamp::GREATEST);
     judge(alloc, lines, wanted, end)
 }

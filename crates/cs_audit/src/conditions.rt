@@ -3,7 +3,7 @@ ghost use Rattle.std.specs.Prelude.{◌≡◌, ◌↔◌, IfOk, IsTrue};
 ghost use Rattle.cs_audit.specs.Audit.{HaveOwnLines, AreApart};
 ghost use Rattle.cs_audit.specs.Index.{DifferBy, DifferInLines, name_of};
 
-use cs_output::line_of;
+use cs_output::{line_of, lines_tell_changes};
 use cs_types::{Change, Duplicate, Memory, RowName, Text};
 use std::alloc::Global;
 use std::collections::BTreeMap;
@@ -14,6 +14,7 @@ use std::collections::BTreeMap;
 pub fn can_be_audited(alloc: Global, wanted: &[Change]) -> Result<bool, Memory>
     ensures { IfOk result (λ b. IsTrue b ↔ (HaveOwnLines wanted.now × AreApart wanted.now)) }
 {
+    lines_tell_changes();
     if !lines_differ(alloc, wanted)? {
         return Ok(false);
     }

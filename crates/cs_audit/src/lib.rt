@@ -4,12 +4,11 @@
 mod auditing;
 mod conditions;
 mod index;
+mod laws;
 mod seen;
 mod verdict;
 
 pub use auditing::audit;
 pub use conditions::can_be_audited;
+pub use laws::changes_of_one_database_have_own_lines;
 pub use verdict::Verdict;
-
-#[cfg(test)]
-mod tests;

@@ -4,16 +4,17 @@ use Rattle.std.specs.List.{AllPairs, concat}
 use Rattle.std.proofs.lemmas.List.{append_cancel_left, length-append}
 use Rattle.std.proofs.lemmas.List.Elements.{All-nil, All-append}
 use Rattle.std.proofs.lemmas.List.Folds.{concat-append}
-use Rattle.cs_tool.specs.BadLine.{HasNoEnd, IsLine, BeginsScript, IsNoScript, IsFirstBadLine, IsTooLong}
-use Rattle.cs_tool.specs.Script.{IsInsert, IsScript, insert_lines, table_line, stream_line, most_bytes}
+use Rattle.cs_tool.specs.BadLine.{IsLine, BeginsScript, IsNoScript, IsFirstBadLine, IsTooLong}
+use Rattle.cs_types.specs.Texts.{HasNoEnd}
+use Rattle.cs_tool.specs.Script.{IsInsert, IsScript, insert_lines, table_line, stream_line, most_bytes, insert_line}
 use Rattle.cs_tool.specs.Reading.{lines_of, CannotFollow, IsReading, HasGiven, IsReplayed, Tracks}
 use Rattle.cs_tool.specs.declared.script.Insert.{Insert}
 use Rattle.cs_tool.specs.declared.taken.Taken.{Taken}
 use Rattle.cs_tool.specs.declared.reader.Reader.{Reader}
 use Rattle.cs_tool.proofs.InsertLines.{insert_is_line, table_is_line, stream_is_line, behind_lines, lines_are_lines, lines_count}
 use Rattle.cs_tool.proofs.Lines.{no_line_in, lines_filled}
+use Rattle.cs_tool.proofs.StampTexts.{StampsDiffer}
 use Rattle.std.proofs.Math.Seq.{get_or-append_seam}
-use Rattle.cs_tool.specs.Script.{insert_line}
 
 no_pairs : (R : Insert → Insert → Type 0) → AllPairs R []
 no_pairs R = λ i j d lt within. absurd (omega (arith, within))
@@ -58,12 +59,12 @@ good_front (suc (suc n)) inserts t tracks short = (
 )
 
 -- lines and a part of a line are no script
-no_script : (lines : ℕ) (inserts : List Insert) (part : List ℕ) → All IsInsert inserts → HasNoEnd part → (2 ≤ lines → 0 < length part) → IsNoScript (concat (lines_of lines inserts) ++ part)
-no_script zero inserts part each none filled = λ all script. no_line_in part table_line (stream_line ++ insert_lines all) none table_is_line script.lines
-no_script (suc zero) inserts part each none filled = λ all script.
+no_script : StampsDiffer → (lines : ℕ) (inserts : List Insert) (part : List ℕ) → All IsInsert inserts → HasNoEnd part → (2 ≤ lines → 0 < length part) → IsNoScript (concat (lines_of lines inserts) ++ part)
+no_script differ zero inserts part each none filled = λ all script. no_line_in part table_line (stream_line ++ insert_lines all) none table_is_line script.lines
+no_script differ (suc zero) inserts part each none filled = λ all script.
     no_line_in part stream_line (insert_lines all) none stream_is_line (append_cancel_left table_line _ _ (sym (append_assoc table_line [] part) ∙ script.lines))
-no_script (suc (suc n)) inserts part each none filled = λ all script.
-    let found = behind_lines n inserts all part (concat (lines_of (suc (suc n)) inserts) ++ part) each script refl in
+no_script differ (suc (suc n)) inserts part each none filled = λ all script.
+    let found = behind_lines differ n inserts all part (concat (lines_of (suc (suc n)) inserts) ++ part) each script refl in
     by all script found.0 found.1 found.2
   where
     by : (all : List Insert) → IsScript (concat (lines_of (suc (suc n)) inserts) ++ part) all → (more : List Insert) → all ≡ inserts ++ more → part ≡ insert_lines more → ⊥
@@ -135,8 +136,8 @@ module _ (old : Reader) (inserts : List Insert) (given : List ℕ) (r : IsReadin
       shape = ap (λ l. concat (lines_of old.lines inserts) ++ l) is ∙ sym (append_assoc (concat (lines_of old.lines inserts)) old.line.items (10 ∷ [])) ∙ ap (λ l. l ++ 10 ∷ []) (sym r.parts)
 
   -- an end that comes too early
-  pub cut_wrong : (number : ℕ) → number ≡ old.lines + 1 → length given ≤ most_bytes → (2 ≤ old.lines → 0 < length old.line.items) → IsFirstBadLine given number
-  cut_wrong number count short filled = (
+  pub cut_wrong : StampsDiffer → (number : ℕ) → number ≡ old.lines + 1 → length given ≤ most_bytes → (2 ≤ old.lines → 0 < length old.line.items) → IsFirstBadLine given number
+  cut_wrong differ number count short filled = (
     lines_of old.lines inserts,
     old.line.items,
     [],
@@ -145,7 +146,7 @@ module _ (old : Reader) (inserts : List Insert) (given : List ℕ) (r : IsReadin
       number_is = omega (arith, count, lines_count old.lines inserts r.counted);
       whole = lines_are_lines old.lines inserts r.tracks.each;
       good = good_lines short;
-      wrong = inr (r.no_end, refl, no_script old.lines inserts old.line.items r.tracks.each r.no_end filled);
+      wrong = inr (r.no_end, refl, no_script differ old.lines inserts old.line.items r.tracks.each r.no_end filled);
       within = omega (arith, short, length-given, length-append {A = ℕ} (concat (lines_of old.lines inserts)) old.line.items);
     },
   )

@@ -4,7 +4,8 @@ use Rattle.std.specs.List.{concat, list_all}
 use Rattle.std.proofs.lemmas.List.{length-append}
 use Rattle.std.proofs.lemmas.List.Elements.{All-head, All-tail, All-append}
 use Rattle.std.proofs.lemmas.List.Sums.{AllPass-from_list_all}
-use Rattle.cs_tool.specs.BadLine.{HasNoEnd, IsLine}
+use Rattle.cs_tool.specs.BadLine.{IsLine}
+use Rattle.cs_types.specs.Texts.{HasNoEnd}
 
 -- a list is cut in one way at the first byte that is m
 pub cut_unique : (m : ℕ) (v w r s : List ℕ) → All (λ x. x ≢ m) v → All (λ x. x ≢ m) w → v ++ m ∷ r ≡ w ++ m ∷ s → (v ≡ w) × (r ≡ s)

@@ -2,9 +2,9 @@
 use Rattle.std.proofs.Common.{◌≡◌, ℕ, List, Option, None, Some, IfSome, sym, subst}
 use Rattle.cs_types.specs.Change.{wanted_changes}
 use Rattle.cs_types.specs.declared.change.Change.{Change}
-use Rattle.cs_output.specs.Output.{IsComplete, IsTextOf}
+use Rattle.cs_output.specs.Output.{IsTextOf}
 use Rattle.cs_tool.specs.BadLine.{IsFirstBadLine, IsTooLong}
-use Rattle.cs_tool.specs.Run.{OnTold, IsWhole, IsBadScript, IsGoodScript, IsCompleteRun}
+use Rattle.cs_tool.specs.Run.{OnTold, IsWholeText, IsWhole, IsBadScript, IsGoodScript, IsCompleteRun}
 use Rattle.cs_tool.specs.declared.status.LineCause.{LineCause}
 use Rattle.cs_tool.specs.declared.status.LineCause.TheVariants.{NotBuilt}
 use Rattle.cs_tool.specs.declared.status.Status.TheVariants.{BadScript}
@@ -20,7 +20,7 @@ good_of_read (Some bytes) start end text read = (read.0, read.1)
 
 pub ended_run : (words : List (List ℕ)) (command : Command) (source old new : Option (List ℕ)) (text : List ℕ) → IsCommand words command
     → IfSome source (λ bytes. IsReplayed (start_of command) (end_of command) bytes text)
-    → ((wanted : List Change) → IsTextOf text wanted → OnTold old new (λ bytes. IsComplete bytes wanted (end_of command))) → IsCompleteRun words source old new
+    → ((wanted : List Change) → IsTextOf text wanted → OnTold old new (IsWholeText wanted (end_of command))) → IsCompleteRun words source old new
 ended_run words command source old new text are read written = (command, are, by source read)
   where
     by : (source : Option (List ℕ)) → IfSome source (λ bytes. IsReplayed (start_of command) (end_of command) bytes text)

@@ -1,57 +1,58 @@
--- The texts of stamps: each spells one stamp, and has neither a quote nor a line end.
-use Rattle.std.proofs.Common.{◌≡◌, ◌≢◌, ◌<◌, ℕ, zero, suc, List, [], ◌∷◌, ◌++◌, All, replicate, codes, pos, IsTrue, refl, subst, arith, lit<}
-use Rattle.std.proofs.lemmas.List.Elements.{All-nil, All-cons, All-head, All-tail, All-append}
-use Rattle.cs_types.specs.Shape.{allows, Fits}
-use Rattle.cs_types.specs.Moment.{IsMomentShape, fraction_pattern}
+-- The texts of stamps: each spells one stamp, as the law of stamps says, and has neither a quote nor a line end.
+use Rattle.std.proofs.Common.{◌≡◌, ◌≢◌, ◌≤◌, ◌+◌, ◌/◌, ◌%◌, ◌==◌, if◌then◌else◌, ℕ, ℤ, Bool, true, false, List, [], ◌∷◌, ◌++◌, All, codes, pos, subst, arith}
+use Rattle.std.proofs.lemmas.List.Elements.{All-nil, All-cons, All-append, All-weaker}
+use Rattle.cs_types.specs.Shape.{two_digits}
+use Rattle.cs_types.specs.Civil.{date_text, year_of, month_of, day_of}
+use Rattle.cs_types.specs.Moment.{clock_text, moment_text, microsecond_of, day_number, fraction_text}
 use Rattle.cs_types.specs.Stamp.{IsStamp, Spells, stamp_text}
-use Rattle.cs_types.proofs.MomentTexts.{stamp_spelled}
-use Rattle.cs_types.proofs.Moments.{same_number}
-use Rattle.cs_tool.specs.BadLine.{HasNoEnd}
-use Rattle.cs_tool.specs.CommitLine.{HasNoQuote}
-use Rattle.cs_tool.specs.Stamps.{first_stamp}
-use Rattle.cs_tool.proofs.Lines.{without}
+use Rattle.cs_types.specs.Texts.{HasNoEnd, HasNoQuote}
 
-pos_same : (m n : ℕ) → pos m ≡ pos n → m ≡ n
-pos_same m n e = cc
+-- stamps are told by their texts
+abbrev pub StampsDiffer : Type 0
+StampsDiffer = (s t : ℕ) → IsStamp s → IsStamp t → stamp_text s ≡ stamp_text t → s ≡ t
 
--- a text spells one stamp
-pub one_stamp : (text : List ℕ) (s t : ℕ) → Spells text s → Spells text t → s ≡ t
-one_stamp text s t is is' = pos_same s t (same_number _ _ text (pos s) (pos t) is is')
+pub stamps_differ : ((us : ℕ) → IsStamp us → Spells (stamp_text us) us) → ((text : List ℕ) (us other : ℕ) → Spells text us → Spells text other → us ≡ other) → StampsDiffer
+stamps_differ written one s t is is' e = one (stamp_text t) s t (subst (λ (l : List ℕ). Spells l s) e (written s is)) (written t is')
 
-pub stamp_text-injective : (s t : ℕ) → IsStamp s → IsStamp t → stamp_text s ≡ stamp_text t → s ≡ t
-stamp_text-injective s t is is' e = one_stamp (stamp_text t) s t (subst (λ (l : List ℕ). Spells l s) e (stamp_spelled s is)) (stamp_spelled t is')
+-- each byte of such a text is a digit or stands above the marks that lines are cut at
+record AreAbove (bytes : List ℕ) : Type 0 where
+  each : All (λ x. 45 ≤ x) bytes
 
-allowed : (m p b : ℕ) → m < 48 → p ≢ m → IsTrue (allows p b) → b ≢ m
-allowed m p b low other h e = grind (arith, low, other, h, e)
+join : {xs ys : List ℕ} → AreAbove xs → AreAbove ys → AreAbove (xs ++ ys)
+join {xs} {ys} p q = record { each = All-append (λ x. 45 ≤ x) xs ys p.each q.each }
 
-fits_without : (m : ℕ) → m < 48 → (ms bs : List ℕ) → All (λ p. p ≢ m) ms → Fits ms bs → All (λ x. x ≢ m) bs
-fits_without m low [] [] all h = All-nil (λ x. x ≢ m)
-fits_without m low [] (b ∷ bs) all h = absurd h
-fits_without m low (p ∷ ms) [] all h = absurd h
-fits_without m low (p ∷ ms) (b ∷ bs) all h =
-    All-cons (λ x. x ≢ m) b bs (allowed m p b low (All-head (λ q. q ≢ m) p ms all) h.0) (fits_without m low ms bs (All-tail (λ q. q ≢ m) p ms all) h.1)
+mark_above : (x : ℕ) → 45 ≤ x → AreAbove (x ∷ [])
+mark_above x le = record { each = All-cons (λ y. 45 ≤ y) x [] le (All-nil (λ y. 45 ≤ y)) }
 
-all_same : (m n : ℕ) → m < 48 → All (λ p. p ≢ m) (replicate n 100)
-all_same m zero low = All-nil (λ p. p ≢ m)
-all_same m (suc n) low = All-cons (λ p. p ≢ m) 100 (replicate n 100) (λ e. absurd (omega (arith, low, e))) (all_same m n low)
+two_above : (n : ℕ) → AreAbove (two_digits n)
+two_above n = join (mark_above (48 + n / 10) (omega arith)) (mark_above (48 + n % 10) (omega arith))
 
-fraction_without : (m n : ℕ) → m < 46 → All (λ p. p ≢ m) (fraction_pattern n)
-fraction_without m zero low = All-cons (λ p. p ≢ m) 90 [] (λ e. absurd (omega (arith, low, e))) (All-nil (λ p. p ≢ m))
-fraction_without m (suc n) low =
-    All-append (λ p. p ≢ m) (codes "." ++ replicate (suc n) 100) (codes "Z")
-    (All-cons (λ p. p ≢ m) 46 (replicate (suc n) 100) (λ e. absurd (omega (arith, low, e))) (all_same m (suc n) (omega (arith, low))))
-    (All-cons (λ p. p ≢ m) 90 [] (λ e. absurd (omega (arith, low, e))) (All-nil (λ p. p ≢ m)))
+either_above : (b : Bool) (xs ys : List ℕ) → AreAbove xs → AreAbove ys → AreAbove (if b then xs else ys)
+either_above true xs ys p q = p
+either_above false xs ys p q = q
 
-shape_without : (m : ℕ) (text : List ℕ) → m < 46 → All (λ p. p ≢ m) (codes "dddd-dd-ddTdd:dd:dd") → IsMomentShape text → All (λ x. x ≢ m) text
-shape_without m text low front (n, le, fits) =
-    fits_without m (omega (arith, low)) (codes "dddd-dd-ddTdd:dd:dd" ++ fraction_pattern n) text (All-append (λ p. p ≢ m) (codes "dddd-dd-ddTdd:dd:dd") (fraction_pattern n) front (fraction_without m n low)) fits
+fraction_above : (us : ℕ) → AreAbove (fraction_text us)
+fraction_above us =
+    either_above (us == 0) [] (codes "." ++ two_digits (us / 10000) ++ two_digits (us / 100 % 100) ++ two_digits (us % 100)) (record { each = All-nil (λ y. 45 ≤ y) })
+    (join (join (join (mark_above 46 (omega arith)) (two_above (us / 10000))) (two_above (us / 100 % 100))) (two_above (us % 100)))
 
-pub stamp_text-no_quote : (at : ℕ) → IsStamp at → HasNoQuote (stamp_text at)
-stamp_text-no_quote at is = shape_without 34 (stamp_text at) (lit< tt) (without 34 (codes "dddd-dd-ddTdd:dd:dd") refl) (stamp_spelled at is).shape
+date_above : (day : ℤ) → AreAbove (date_text day)
+unfolding date_text
+date_above day =
+    join (join (join (join (join (two_above (year_of day / 100)) (two_above (year_of day % 100))) (mark_above 45 (omega arith))) (two_above (month_of day))) (mark_above 45 (omega arith))) (two_above (day_of day))
 
-pub stamp_text-no_end : (at : ℕ) → IsStamp at → HasNoEnd (stamp_text at)
-stamp_text-no_end at is = shape_without 10 (stamp_text at) (lit< tt) (without 10 (codes "dddd-dd-ddTdd:dd:dd") refl) (stamp_spelled at is).shape
+clock_above : (us : ℕ) → AreAbove (clock_text us)
+unfolding clock_text
+clock_above us =
+    join (join (join (join (join (join (join (mark_above 84 (omega arith)) (two_above (us / 1000000 / 60 / 60))) (mark_above 58 (omega arith))) (two_above (us / 1000000 / 60 % 60))) (mark_above 58 (omega arith)))
+    (two_above (us / 1000000 % 60))) (fraction_above (us % 1000000))) (mark_above 90 (omega arith))
 
--- the first stamp's text
-pub first_spelled : Spells (stamp_text first_stamp) first_stamp
-first_spelled = stamp_spelled first_stamp (omega arith, omega arith)
+stamp_above : (at : ℕ) → AreAbove (stamp_text at)
+unfolding moment_text
+stamp_above at = join (date_above (day_number (pos at))) (clock_above (microsecond_of (pos at)))
+
+pub stamp_text-no_quote : (at : ℕ) → HasNoQuote (stamp_text at)
+stamp_text-no_quote at = All-weaker (λ x. 45 ≤ x) (λ x. x ≢ 34) (λ x le e. omega (arith, le)) (stamp_text at) (stamp_above at).each
+
+pub stamp_text-no_end : (at : ℕ) → HasNoEnd (stamp_text at)
+stamp_text-no_end at = All-weaker (λ x. 45 ≤ x) (λ x. x ≢ 10) (λ x le e. omega (arith, le)) (stamp_text at) (stamp_above at).each

@@ -3,10 +3,7 @@ use Rattle.std.specs.Prelude.{◌≡◌, ◌≢◌, ◌⊎◌, ◌≤◌, ◌<�
 use Rattle.std.specs.List.{concat}
 use Rattle.cs_tool.specs.declared.script.Insert.{Insert}
 use Rattle.cs_tool.specs.Script.{IsScript, most_bytes}
-
--- no byte is a line feed
-abbrev pub HasNoEnd : List ℕ → Type 0
-HasNoEnd = All (λ x. x ≢ 10)
+use Rattle.cs_types.specs.Texts.{HasNoEnd}
 
 -- a line with its end, the only line feed in it
 pub record IsLine (line : List ℕ) : Type 0 where

@@ -8,7 +8,8 @@ use Rattle.std.specs.declared.cmp.Ordering.{Ordering}
 use Rattle.cs_tool.specs.Stamps.{first_stamp}
 use Rattle.cs_types.specs.Change.{wanted_changes}
 use Rattle.cs_output.specs.Output.{IsTextOf}
-use Rattle.cs_tool.specs.BadLine.{HasNoEnd, IsFirstBadLine, IsTooLong}
+use Rattle.cs_tool.specs.BadLine.{IsFirstBadLine, IsTooLong}
+use Rattle.cs_types.specs.Texts.{HasNoEnd}
 use Rattle.cs_tool.specs.Script.{IsInsert, IsScript, insert_line, table_line, stream_line, changes_of}
 use Rattle.cs_tool.specs.declared.script.Insert.{Insert}
 use Rattle.cs_tool.specs.declared.taken.Taken.{Taken}

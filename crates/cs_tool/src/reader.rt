@@ -2,7 +2,7 @@
 use crate::fields::place_of;
 use crate::taken::Taken;
 use cs_output::OutputText;
-use cs_types::{Memory, Stamp};
+use cs_types::{Memory, Stamp, written_stamps_read_back};
 use std::alloc::{AllocError, AllocFailed, Global};
 
 /// Why a script was not read to its end.
@@ -64,7 +64,8 @@ pub(crate) struct Reader {
 impl Reader {
     ghost use Rattle.std.specs.Prelude.{◌≡◌, ◌≢◌, ◌∷◌, ◌++◌, ◌≤◌, ◌<◌, [], List, ℕ, length, take, IfOk, IfErr, OnOk};
     ghost use Rattle.cs_tool.specs.Reading.{HasGiven, IsScriptFault, IsReplayed};
-    ghost use Rattle.cs_tool.specs.BadLine.{IsFirstBadLine, HasNoEnd};
+    ghost use Rattle.cs_tool.specs.BadLine.{IsFirstBadLine};
+    ghost use Rattle.cs_types.specs.Texts.{HasNoEnd};
     ghost use Rattle.cs_tool.specs.Script.{most_bytes};
 
     /// Of no bytes.
@@ -156,6 +157,7 @@ impl Reader {
         ensures refused { (given : List ℕ) → HasGiven self given → length given ≤ most_bytes → IfErr result (IsScriptFault given) }
         ensures own { IfErr result (λ e. e ≢ ScriptFault.Failed) }
     {
+        written_stamps_read_back();
         let Reader { lines, line, taken } = self;
         if lines < 2 {
             return Err(ScriptFault::Line(lines.saturating_add(1)));

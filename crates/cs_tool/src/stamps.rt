@@ -2,7 +2,7 @@ ghost use Rattle.std.specs.Prelude.{◌≡◌, ◌≢◌, ℕ, MatchOption};
 ghost use Rattle.cs_types.specs.Stamp.{Spells, stamp_text};
 ghost use Rattle.cs_tool.specs.Stamps.{IsCommitStamp};
 
-use cs_types::Stamp;
+use cs_types::{Stamp, whole_seconds_have_twenty_bytes};
 
 /// 2024-05-01T00:00:00Z, the stamp of a script's table and of its stream, in microseconds.
 pub(crate) const FIRST_STAMP: u64 = 1_714_521_600_000_000;
@@ -26,6 +26,7 @@ pub(crate) fn commit_stamp(text: &[u8]) -> Option<Stamp>
         ((s : ℕ) → IsCommitStamp s → text.now ≢ stamp_text s)
         (λ s. IsCommitStamp s × (text.now ≡ stamp_text s)) }
 {
+    whole_seconds_have_twenty_bytes();
     // with a fraction it is longer
     if text.len() != WHOLE_BYTES {
         return None;

@@ -4,7 +4,7 @@ use crate::script::Insert;
 use crate::stamps::FIRST_STAMP;
 use crate::wanted::add_wanted;
 use cs_output::OutputText;
-use cs_types::{Duplicate, Memory, Stamp, Text};
+use cs_types::{Duplicate, Memory, Stamp, Text, written_stamps_read_back};
 use std::alloc::Global;
 use std::collections::BTreeSet;
 
@@ -56,6 +56,7 @@ impl Taken {
             → CannotFollow (lines_of lines inserts) line.now) }
         ensures window { (self.new.start ≡ self.old.start) × (self.new.end ≡ self.old.end) }
     {
+        written_stamps_read_back();
         if lines == 0 {
             return Ok(is_same(line, TABLE_LINE));
         }

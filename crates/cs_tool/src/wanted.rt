@@ -26,7 +26,7 @@ pub(crate) fn add_wanted(
         return Ok(());
     }
     let change = insert.change(alloc)?;
-    output.add_change(alloc, &change)
+    output.add_change(&change)
 }
 
 fn is_within(at: Stamp, start: Stamp, end: Stamp) -> bool

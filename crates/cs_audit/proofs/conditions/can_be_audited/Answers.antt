@@ -9,7 +9,7 @@ IfOk-weaken (Err e) P Q f p = tt
 pub returns-then-not-branch : goal.returns-then-not-branch
 returns-then-not-branch c = (
   (λ e. absurd (true≢false (sym e))),
-  λ both. absurd (true≢false (sym (c.in_ok-lines_differ.ensures.1 (differ_in_lines c.args.wanted.now both.0 both.1)) ∙ c.if-not-branch.true)),
+  λ both. absurd (true≢false (sym (c.in_ok-lines_differ.ensures.1 (differ_in_lines c.lines_tell_changes.ensures.transaction c.args.wanted.now both.0 both.1)) ∙ c.if-not-branch.true)),
 )
 
 pub returns : goal.returns

@@ -1,6 +1,0 @@
-use Rattle.std.specs.List.Sorted.{IsStrictlySortedBy}
-use Rattle.cs_audit.proofs.tests.key_cells.Goals as goal
-
-pub in_order-requires-clause-rising : goal.in_order-requires-clause-rising
-unfolding IsStrictlySortedBy
-in_order-requires-clause-rising c = rw (c.in_ok-push.ensures.ok, c.new-cells.ensures) (tt, tt)
