@@ -1,5 +1,8 @@
 //! A database of one table, and commits to it.
 
+ghost use Rattle.std.specs.Prelude.{IfOk};
+ghost use Rattle.cs_txn.specs.Fits.{IsHistoryOf};
+
 use crate::trouble::Trouble;
 use cs_ddl::parse_ddl;
 use cs_schema::Catalog;
@@ -107,7 +110,9 @@ fn numbered(alloc: Global, number: u32) -> Result<Txn, Trouble> {
 }
 
 /// So many commits.
-pub fn history(alloc: Global, catalog: &Catalog, count: u32) -> Result<History, Trouble> {
+pub fn history(alloc: Global, catalog: &Catalog, count: u32) -> Result<History, Trouble>
+    ensures { IfOk result (λ h. IsHistoryOf catalog.now.tables h) }
+{
     let mut history = History::new(alloc);
     for number in 0..count {
         let txn = numbered(alloc, number)?;

@@ -5,19 +5,31 @@
 mod audits;
 mod commits;
 mod records;
+mod stories;
+mod tables;
 mod trouble;
 
 use crate::trouble::Trouble;
 use std::alloc::Global;
 use std::process::ExitCode;
-use std::{env, io};
+use std::{env, fs, io};
 
 const HELP: &str = "usage:
-  commit N     makes N commits to one table
-  audit N      audits the output of N commits
-  fill         fills a history to its limit
-  lines FILE   reads each line as a record, and writes it back
-  changes FILE reads each line as a record, and writes the changes that it tells
+  commit N         makes N commits to one table
+  audit N          audits the output of N commits
+  fill             fills a history to its limit
+and of each line of a file
+  lines FILE       reads a record, and writes it back
+  changes FILE     reads a record, and writes the changes that it tells
+  values FILE      reads a value of a type, and writes it back
+  places FILE      reads a value of a type, and writes the place of its row
+  stamps FILE      reads a stamp, and writes it back
+  statements FILE  reads a statement
+  queries FILE     reads a query
+  story FILE       makes a statement or a transaction, and answers it
+  captured FILE    the like, and writes the changes that the first stream captures
+  columns FILE     the like, and writes the columns that the first stream tells of each write
+  verdict FILE OUTPUT  the like, and audits an output against these changes
 ";
 
 fn main(rt: HostRuntime) -> ExitCode {
@@ -38,13 +50,43 @@ fn words_of(rt: &HostRuntime) -> io::Result<Vec<String>> {
 }
 
 fn answer_of(rt: &HostRuntime, words: &[String]) -> Result<String, Trouble> {
-    let alloc = rt.alloc();
     match words {
-        [command] if command.as_str() == "fill" => commits::fill(alloc),
-        [command, file] if command.as_str() == "lines" => records::lines(rt, file.as_str()),
-        [command, file] if command.as_str() == "changes" => records::changes(rt, file.as_str()),
-        [command, count] => numbered(alloc, command.as_str(), count.as_str()),
+        [command] if command.as_str() == "fill" => commits::fill(rt.alloc()),
+        [command, of] => answer_on(rt, command.as_str(), of.as_str()),
+        [command, story, output] if command.as_str() == "verdict" => {
+            let story = content(rt, story.as_str())?;
+            let output = content(rt, output.as_str())?;
+            stories::verdict(rt.alloc(), story.as_str(), output.as_str())
+        }
         _ => Err(Trouble::Words),
+    }
+}
+
+fn answer_on(rt: &HostRuntime, command: &str, of: &str) -> Result<String, Trouble> {
+    match command {
+        "commit" | "audit" => numbered(rt.alloc(), command, of),
+        _ => {
+            let text = content(rt, of)?;
+            answer_to(rt.alloc(), command, text.as_str())
+        }
+    }
+}
+
+fn content(rt: &HostRuntime, path: &str) -> Result<String, Trouble> {
+    match fs::read_to_string(rt, path) {
+        Ok(text) => Ok(text),
+        Err(_) => Err(Trouble::File),
+    }
+}
+
+fn answer_to(alloc: Global, command: &str, text: &str) -> Result<String, Trouble> {
+    match command {
+        "lines" => records::lines(alloc, text),
+        "changes" => records::changes(alloc, text),
+        "story" => stories::answers(alloc, text),
+        "captured" => stories::changes(alloc, text),
+        "columns" => stories::columns(alloc, text),
+        _ => tables::answers(alloc, command, text),
     }
 }
 

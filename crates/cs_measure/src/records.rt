@@ -6,13 +6,10 @@ use cs_output::line_of;
 use cs_records::{DataRecord, LineFault, Record, RecordFault, changes_of};
 use cs_types::Change;
 use std::alloc::Global;
-use std::fs;
 
-/// Reads each line of a file as a record, and gives the one line that is written for it, or the
+/// Reads each line as a record, and gives the one line that is written for it, or the
 /// fault for which it stands for none; one line each.
-pub fn lines(rt: &HostRuntime, path: &str) -> Result<String, Trouble> {
-    let alloc = rt.alloc();
-    let text = content(rt, path)?;
+pub fn lines(alloc: Global, text: &str) -> Result<String, Trouble> {
     let mut answers = String::new(alloc);
     for line in text.lines() {
         if !answers.is_empty() {
@@ -23,11 +20,9 @@ pub fn lines(rt: &HostRuntime, path: &str) -> Result<String, Trouble> {
     Ok(answers)
 }
 
-/// Reads each line of a file as a record, and gives the output lines of the changes that it tells,
+/// Reads each line as a record, and gives the output lines of the changes that it tells,
 /// or why it tells none; a record that tells of no changes gives nothing.
-pub fn changes(rt: &HostRuntime, path: &str) -> Result<String, Trouble> {
-    let alloc = rt.alloc();
-    let text = content(rt, path)?;
+pub fn changes(alloc: Global, text: &str) -> Result<String, Trouble> {
     let mut answers = String::new(alloc);
     for line in text.lines() {
         let read = record_from_line(alloc, line.as_bytes());
@@ -36,13 +31,6 @@ pub fn changes(rt: &HostRuntime, path: &str) -> Result<String, Trouble> {
         }
     }
     Ok(answers)
-}
-
-fn content(rt: &HostRuntime, path: &str) -> Result<String, Trouble> {
-    match fs::read_to_string(rt, path) {
-        Ok(text) => Ok(text),
-        Err(_) => Err(Trouble::File),
-    }
 }
 
 fn tell(alloc: Global, answers: &mut String, item: &DataRecord) -> Result<(), Trouble> {

@@ -1,5 +1,15 @@
-//! Worked values, tried on the public calls of the crates below with ample memory. It has tests alone.
+//! Worked answers of the types, the places and the devices, tried on their public calls with ample memory. It has tests alone.
 #![tactic(auto)]
 
 #[cfg(test)]
-mod values;
+mod devices;
+#[cfg(test)]
+mod disks;
+#[cfg(test)]
+mod making;
+#[cfg(test)]
+mod parts;
+#[cfg(test)]
+mod rows;
+#[cfg(test)]
+mod types;

@@ -1,0 +1,118 @@
+use crate::objects::{Objects, disk, sound_objects, source, told};
+use cs_device::MemSink;
+use cs_types::{Items, Memory};
+use std::alloc::Global;
+use std::test::Fail;
+
+const TABLE: &str =
+    "{\"at\":\"2024-05-01T00:00:00Z\",\"ddl\":\"CREATE TABLE T (K INT64 NOT NULL, A INT64, B STRING(MAX)) PRIMARY KEY (K)\"}\n{\"at\":\"2024-05-01T00:00:00Z\",\"ddl\":\"CREATE CHANGE STREAM S FOR T\"}\n";
+
+const INSERT: &str =
+    "{\"at\":\"2024-05-01T00:00:00Z\",\"ddl\":\"CREATE TABLE T (K INT64 NOT NULL, A INT64, B STRING(MAX)) PRIMARY KEY (K)\"}\n{\"at\":\"2024-05-01T00:00:00Z\",\"ddl\":\"CREATE CHANGE STREAM S FOR T\"}\n{\"at\":\"2024-05-01T00:00:01Z\",\"commit\":{\"id\":\"t1\",\"writes\":[{\"insert\":\"T\",\"key\":{\"K\":\"1\"},\"set\":{\"A\":\"5\",\"B\":\"x\"}}]}}\n";
+
+const ENDED: &str =
+    "0|0 Ended\n|journal|{\"key\":{\"K\":\"1\"},\"kind\":\"INSERT\",\"new\":{\"A\":\"5\",\"B\":\"x\"},\"old\":{},\"stamp\":\"2024-05-01T00:00:01Z\",\"table\":\"T\",\"tx\":\"t1\"}\n{\"watermark\":\"2024-05-01T00:00:01Z\"}\n|";
+
+const SILENT: &str =
+    "43||journal|{\"key\":{\"K\":\"1\"},\"kind\":\"INSERT\",\"new\":{\"A\":\"5\",\"B\":\"x\"},\"old\":{},\"stamp\":\"2024-05-01T00:00:01Z\",\"table\":\"T\",\"tx\":\"t1\"}\n{\"watermark\":\"2024-05-01T00:00:01Z\"}\n|";
+
+const ONE: &str = "replay a b c S 2024-05-01T00:00:01Z 2024-05-01T00:00:01Z";
+
+const EMPTY: &str = "replay a b c S 2024-05-01T00:00:10Z 2024-05-01T00:00:20Z";
+
+/// What a run over objects that do not fail tells.
+fn plain(alloc: Global, words: &str, script: &str, output: &str) -> Result<String, Memory> {
+    told(alloc, words, sound_objects(alloc, script, output)?)
+}
+
+#[test]
+fn one_insert_is_one_line_and_a_watermark(rt: HostRuntime) -> Result<(), Fail> {
+    assert_eq!(rt; plain(rt.alloc(), ONE, INSERT, "")?.as_str(), ENDED);
+    Ok(())
+}
+
+#[test]
+fn an_empty_window_is_a_watermark(rt: HostRuntime) -> Result<(), Fail> {
+    let told = plain(rt.alloc(), EMPTY, TABLE, "")?;
+    assert_eq!(rt;
+        told.as_str(),
+        "0|0 Ended\n|journal|{\"watermark\":\"2024-05-01T00:00:20Z\"}\n|"
+    );
+    Ok(())
+}
+
+#[test]
+fn an_output_with_bytes_stays(rt: HostRuntime) -> Result<(), Fail> {
+    let told = plain(rt.alloc(), ONE, INSERT, "x")?;
+    assert_eq!(rt; told.as_str(), "55|55 OutputNotEmpty 1\n|journal|x|");
+    Ok(())
+}
+
+#[test]
+fn a_bad_word_is_counted(rt: HostRuntime) -> Result<(), Fail> {
+    let told = plain(rt.alloc(), "replay a b c S", INSERT, "")?;
+    assert_eq!(rt; told.as_str(), "50|50 BadWords 5\n|journal||");
+    Ok(())
+}
+
+#[test]
+fn a_bad_line_is_counted(rt: HostRuntime) -> Result<(), Fail> {
+    let told = plain(rt.alloc(), ONE, "x\n", "")?;
+    assert_eq!(rt; told.as_str(), "51|51 BadScript 1 NotBuilt\n|journal||");
+    Ok(())
+}
+
+fn over_a_failing_script(alloc: Global) -> Result<Objects, Memory> {
+    let mut all = sound_objects(alloc, "", "")?;
+    all.script = source(alloc, INSERT, &[1])?;
+    Ok(all)
+}
+
+#[test]
+fn a_script_that_fails_at_its_second_read(rt: HostRuntime) -> Result<(), Fail> {
+    let told = told(rt.alloc(), ONE, over_a_failing_script(rt.alloc())?)?;
+    assert_eq!(rt; told.as_str(), "42|42 SourceFault\n|journal||");
+    Ok(())
+}
+
+fn over_a_failing_output(alloc: Global, call: u64) -> Result<Objects, Memory> {
+    let mut all = sound_objects(alloc, INSERT, "")?;
+    all.output = disk(alloc, "", &[call])?;
+    Ok(all)
+}
+
+fn fails_at(alloc: Global, call: u64) -> Result<bool, Memory> {
+    let told = told(alloc, ONE, over_a_failing_output(alloc, call)?)?;
+    Ok(told.as_str().starts_with("41|41 OutputFault\n|"))
+}
+
+#[test]
+fn an_output_that_fails_at_its_length(rt: HostRuntime) -> Result<(), Fail> {
+    assert!(rt; fails_at(rt.alloc(), 0)?);
+    Ok(())
+}
+
+#[test]
+fn an_output_that_fails_at_its_write(rt: HostRuntime) -> Result<(), Fail> {
+    assert!(rt; fails_at(rt.alloc(), 1)?);
+    Ok(())
+}
+
+#[test]
+fn an_output_that_fails_at_its_sync(rt: HostRuntime) -> Result<(), Fail> {
+    assert!(rt; fails_at(rt.alloc(), 2)?);
+    Ok(())
+}
+
+fn over_a_failing_console(alloc: Global) -> Result<Objects, Memory> {
+    let mut all = sound_objects(alloc, INSERT, "")?;
+    all.console = MemSink::new(alloc, 0, Items::new(alloc))?;
+    Ok(all)
+}
+
+#[test]
+fn a_console_that_fails(rt: HostRuntime) -> Result<(), Fail> {
+    let told = told(rt.alloc(), ONE, over_a_failing_console(rt.alloc())?)?;
+    assert_eq!(rt; told.as_str(), SILENT);
+    Ok(())
+}

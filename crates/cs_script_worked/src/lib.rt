@@ -1,0 +1,9 @@
+//! Worked answers of statements, queries, catalogs, histories and capture, tried on their public calls with ample memory. It has tests alone.
+#![tactic(auto)]
+
+#[cfg(test)]
+mod catalogs;
+#[cfg(test)]
+mod queries;
+#[cfg(test)]
+mod statements;
