@@ -194,13 +194,13 @@ STORIES = {
         ddl("DROP CHANGE STREAM S", "this statement or option is not built"),
     ],
     "a crowd of streams": [
-        ddl("CREATE CHANGE STREAM R1"),
-        ddl("CREATE CHANGE STREAM R1", "a stream of this name is there"),
+        ddl("CREATE CHANGE STREAM Q1"),
+        ddl("CREATE CHANGE STREAM Q1", "a stream of this name is there"),
         TABLE,
         *(ddl(f"CREATE CHANGE STREAM S{it} FOR ALL") for it in (1, 2, 3)),
         ddl("CREATE CHANGE STREAM S4 FOR ALL", "more than 3 streams would watch the column A"),
-        *(ddl(f"CREATE CHANGE STREAM R{it}") for it in range(2, 8)),
-        ddl("CREATE CHANGE STREAM R8", "more than 10 streams"),
+        *(ddl(f"CREATE CHANGE STREAM Q{it}") for it in range(2, 8)),
+        ddl("CREATE CHANGE STREAM Q8", "more than 10 streams"),
     ],
     "refused transactions": [
         TABLE,
