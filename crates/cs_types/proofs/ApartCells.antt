@@ -1,11 +1,11 @@
 -- Cells of which no column stands twice, and their rising order once they are sorted.
-use Rattle.std.proofs.Common.{◌≡◌, ◌≢◌, ◌+◌, ◌<◌, ◌≤◌, ℕ, zero, suc, List, [], ◌∷◌, ◌++◌, length, get_or, take, drop, map, Bool, true, false, not, cond, ◌||◌, Ordering, Less, Equal, Greater, nat_cmp, is_lt, is_eq, refl, ap, ◌∙◌, sym, subst, drop-cons, add-one, arith, rules, All}
+use Rattle.std.proofs.Common.{◌≡◌, ◌+◌, ◌<◌, ℕ, suc, List, [], ◌∷◌, ◌++◌, length, get_or, take, drop, map, Bool, true, false, not, cond, ◌||◌, Ordering, Less, Equal, Greater, nat_cmp, is_lt, is_eq, refl, ap, ◌∙◌, sym, subst, drop-cons, add-one, arith, All}
 use Rattle.std.specs.Cmp.{IsEquivalence, eq_by_cmp_equiv, on_total}
 use Rattle.std.specs.Cmp.Lexicographic.{slice_cmp, nat_list_cmp_total}
 use Rattle.std.specs.List.{AllByRecursion, IsDistinct, list_any}
 use Rattle.std.specs.List.Sorted.{IsStrictlySortedBy, IsSortedByKey, IsPermutation}
 use Rattle.std.specs.Ordering.{ordering_reverse, eq_by_cmp}
-use Rattle.std.proofs.lemmas.List.{take_more, take-append-drop, take_all}
+use Rattle.std.proofs.lemmas.List.{take_more, take-append-drop}
 use Rattle.std.proofs.lemmas.List.Folds.{list_any-append}
 use Rattle.std.proofs.lemmas.Map.Keys.{IsDistinct-push, IsDistinct-IsPermutation, apart_from_distinct}
 use Rattle.cs_types.specs.declared.cells.Cell.{Cell}

@@ -3,7 +3,6 @@ use Rattle.std.proofs.Common.{◌≡◌, ◌↔◌, List, ℕ, Result, Ok, Err, 
 use Rattle.base64.specs.Engines.{standard}
 use Rattle.base64.specs.GeneralPurpose.{encode_of, decode_of, IsBytes, IsStrict}
 use Rattle.base64.proofs.EngineFacts.{decode_of_iff}
-use Rattle.cs_types.specs.declared.value.Value.{Value}
 use Rattle.cs_types.specs.declared.value.Value.TheVariants.{Bytes}
 use Rattle.cs_types.specs.Value.{Reading, of_decoded, bytes_reading}
 

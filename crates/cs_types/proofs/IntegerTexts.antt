@@ -1,5 +1,5 @@
 -- The text of an INT64 is digits and a minus.
-use Rattle.std.proofs.Common.{◌≡◌, ◌≤◌, ◌&&◌, ℕ, suc, List, [], ◌∷◌, true, nat_le, All, ℤ, pos, negsuc, FitsSigned, w64, decimal, arith}
+use Rattle.std.proofs.Common.{◌≡◌, ◌&&◌, ℕ, suc, List, [], ◌∷◌, true, nat_le, All, ℤ, pos, negsuc, FitsSigned, w64, decimal, arith}
 use Rattle.std.specs.Fmt.{signed_decimal}
 use Rattle.std.proofs.lemmas.Bool.{and_parts, leb-true}
 use Rattle.std.proofs.lemmas.Fmt.{digits_decimal}

@@ -7,7 +7,6 @@ pub mod Fields
 pub mod Moments
 pub mod MomentTexts
 pub mod Patterns
-pub mod SameRow
 pub mod Capped
 pub mod NumericReading
 pub mod NumericWriting

@@ -1,10 +1,9 @@
 -- The parts of a NUMERIC's text, and what they stand for.
-use Rattle.std.proofs.Common.{◌≡◌, ◌≢◌, ◌<◌, ◌≤◌, ◌^◌, ℕ, zero, suc, ◌+◌, ◌-◌, ◌*◌, List, [], ◌∷◌, ◌++◌, length, get_or, drop, take, Bool, true, false, ◌&&◌, nat_lt, nat_le, ◌==◌, Option, Some, None, Result, Ok, Err, ℤ, pos, refl, ap, sym, ◌∙◌, subst, arith, rules}
+use Rattle.std.proofs.Common.{◌≡◌, ◌≢◌, ◌<◌, ◌≤◌, ◌^◌, ℕ, suc, ◌+◌, ◌*◌, List, [], ◌∷◌, ◌++◌, length, get_or, drop, true, false, ◌==◌, Some, None, Ok, Err, refl, ap, sym, ◌∙◌, arith, rules}
 use Rattle.std.specs.Char.{digit_value}
 use Rattle.std.specs.Str.Parse.{digits_value, digits_value_after}
-use Rattle.cs_types.specs.declared.value_fault.ValueFault.{ValueFault}
 use Rattle.cs_types.specs.declared.value_fault.ValueFault.TheVariants.{Range, BadText}
-use Rattle.cs_types.specs.Digits.{all_digits, all_zeros, is_digits, first_digits, capped}
+use Rattle.cs_types.specs.Digits.{all_zeros, is_digits, first_digits, capped}
 use Rattle.cs_types.specs.Numeric.{whole_part, fraction_part, below_end, billionths, whole_reading, parts_reading, magnitude_reading, signed, signed_reading, numeric_reading}
 use Rattle.cs_types.proofs.Capped.{after_ge, capped_none}
 

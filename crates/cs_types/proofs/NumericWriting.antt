@@ -1,8 +1,8 @@
 -- The text that is written for a NUMERIC, digit by digit.
-use Rattle.std.proofs.Common.{◌≡◌, ◌≢◌, ◌<◌, ◌≤◌, ◌^◌, ℕ, zero, suc, ◌+◌, ◌-◌, ◌*◌, ◌/◌, ◌%◌, List, [], ◌∷◌, ◌++◌, length, Bool, true, false, ◌==◌, append_assoc, append-nil, refl, ap, sym, ◌∙◌, subst, arith, rules}
+use Rattle.std.proofs.Common.{◌≡◌, ◌<◌, ◌≤◌, ◌^◌, ℕ, zero, suc, ◌+◌, ◌-◌, ◌*◌, ◌/◌, ◌%◌, List, [], ◌∷◌, ◌++◌, false, ◌==◌, append_assoc, append-nil, refl, ap, sym, ◌∙◌, arith}
 use Rattle.std.proofs.Math.Nat.{pow-suc, mod-lt}
 use Rattle.std.proofs.lemmas.Nat.{div_below}
-use Rattle.cs_types.specs.Numeric.{fraction_digits, fraction_text}
+use Rattle.cs_types.specs.Numeric.{fraction_digits}
 
 pub ten_pow_pos : (k : ℕ) → 0 < 10 ^ k
 ten_pow_pos zero = omega arith

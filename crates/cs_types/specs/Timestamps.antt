@@ -1,5 +1,5 @@
 -- What a text stands for as a TIMESTAMP, a moment in microseconds since 1970 (GoogleSQL data types): the relation of text and moment, as a test.
-use Rattle.std.specs.Prelude.{ℕ, zero, suc, ◌/◌, List, ◌++◌, codes, Bool, ◌&&◌, ◌||◌, nat_lt, ℤ, pos, negsuc, neg_ℤ, ◌-ℤ◌, ◌*ℤ◌, if◌then◌else◌, Result, Ok, Err}
+use Rattle.std.specs.Prelude.{ℕ, zero, suc, List, ◌++◌, codes, Bool, ◌&&◌, ◌||◌, nat_lt, ℤ, pos, ◌-ℤ◌, ◌*ℤ◌, if◌then◌else◌, Result, Ok, Err}
 use Rattle.std.specs.Int.{int_div_euclid}
 use Rattle.std.specs.Int.Signed.{le_z}
 use Rattle.std.specs.Ordering.{int_eq}

@@ -1,4 +1,4 @@
-use Rattle.std.proofs.Common.{◌≡◌, ◌≢◌, ◌+◌, ◌<◌, ◌≤◌, ℕ, List, [], ◌∷◌, ◌++◌, length, true, false, All, take, refl, ap, sym, ◌∙◌, arith, rules}
+use Rattle.std.proofs.Common.{◌≡◌, true, false, take, ap, sym, ◌∙◌}
 use Rattle.std.specs.List.{list_any}
 use Rattle.cs_types.specs.Cells.{same_column}
 use Rattle.cs_types.proofs.ApartCells.{none_apart, pushed_apart, pushed_seen, was_true, was_false, first_twice}

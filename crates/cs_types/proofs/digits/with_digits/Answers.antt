@@ -1,4 +1,4 @@
-use Rattle.std.proofs.Common.{◌≡◌, ◌≤◌, ◌<◌, true, arith}
+use Rattle.std.proofs.Common.{arith}
 use Rattle.cs_types.proofs.Capped.{too_large}
 use Rattle.cs_types.proofs.digits.with_digits.Goals as goal
 

@@ -1,4 +1,4 @@
-use Rattle.std.proofs.Common.{◌≡◌, ◌≤◌, ◌<◌, true, arith, rules}
+use Rattle.std.proofs.Common.{arith}
 use Rattle.cs_types.proofs.Capped.{first_too_large, first_rest, rest_digits, all_read}
 use Rattle.cs_types.proofs.digits.with_first_digits.Goals as goal
 

@@ -1,4 +1,4 @@
-use Rattle.std.proofs.Common.{◌≡◌, ◌≤◌, ◌<◌, true, arith}
+use Rattle.std.proofs.Common.{arith}
 use Rattle.cs_types.proofs.Capped.{zero_too_large, zeros_rest, all_read}
 use Rattle.cs_types.proofs.digits.with_zeros.Goals as goal
 

@@ -1,4 +1,4 @@
-use Rattle.std.proofs.Common.{◌≡◌, ◌<◌, ◌^◌, arith}
+use Rattle.std.proofs.Common.{arith}
 use Rattle.cs_types.proofs.DigitCounts.{one_more, one_digit, few}
 use Rattle.cs_types.proofs.integer.count_digits.Goals as goal
 

@@ -1,4 +1,4 @@
-use Rattle.std.proofs.Common.{◌≡◌, ◌≤◌, ◌<◌, ℕ, List, [], ◌∷◌, ◌++◌, true, false, Some, None, Ok, Err, refl, sym, ap, ◌∙◌, arith, rules}
+use Rattle.std.proofs.Common.{sym, ◌∙◌}
 use Rattle.cs_types.specs.Digits.{first_digits}
 use Rattle.cs_types.proofs.NumericReading.{whole_too_large, whole_read}
 use Rattle.cs_types.proofs.numeric.read_billionths.Goals as goal

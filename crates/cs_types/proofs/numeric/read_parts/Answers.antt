@@ -1,4 +1,4 @@
-use Rattle.std.proofs.Common.{◌≡◌, ◌≤◌, ◌<◌, ℕ, List, [], ◌∷◌, ◌++◌, true, false, Some, None, Ok, Err, refl, sym, ap, ◌∙◌, arith, rules}
+use Rattle.std.proofs.Common.{sym}
 use Rattle.cs_types.proofs.NumericReading.{parts_too_fine, parts_read, parts_too_large}
 use Rattle.cs_types.proofs.numeric.read_parts.Goals as goal
 

@@ -1,4 +1,4 @@
-use Rattle.std.proofs.Common.{◌≡◌, ◌≤◌, ◌<◌, ◌-◌, ◌+◌, ◌/◌, ◌%◌, string_bytes, ℕ, List, [], ◌∷◌, ◌++◌, true, false, Some, None, Ok, Err, refl, sym, ap, ◌∙◌, arith, rules}
+use Rattle.std.proofs.Common.{◌<◌, ◌-◌, ◌/◌, string_bytes, ℕ, List, [], ◌∷◌, ◌++◌, ap, ◌∙◌, arith}
 use Rattle.cs_types.proofs.NumericWriting.{ten_pow_pos, fraction_end, pushed, rest_below, digit_below}
 use Rattle.cs_types.proofs.numeric.write_fraction.Goals as goal
 

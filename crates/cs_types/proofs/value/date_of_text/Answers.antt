@@ -1,6 +1,6 @@
-use Rattle.std.proofs.Common.{◌≡◌, Ok, Err, List, ℕ, ℤ, to_z, of_z, to_z-of_z, w32, FitsSigned, refl, ap, sym, subst, ◌∙◌, arith, rules}
+use Rattle.std.proofs.Common.{List, ℕ, to_z-of_z, w32, FitsSigned, ap, sym, subst, rules}
 use Rattle.cs_types.specs.declared.value.Value.TheVariants.{Date}
-use Rattle.cs_types.specs.Civil.{SpellsDate, IsDateShape, HasCivilDate, IsDateFault}
+use Rattle.cs_types.specs.Civil.{SpellsDate, IsDateFault}
 use Rattle.cs_types.specs.declared.civil.DateFault.TheVariants.{Shape, Range}
 use Rattle.cs_types.specs.Value.{held}
 use Rattle.cs_types.proofs.DateReading.{date_read, date_bad, date_outside}

@@ -1,6 +1,6 @@
-use Rattle.std.proofs.Common.{◌≡◌, Ok, Err, List, ℕ, ℤ, to_z, of_z, to_z-of_z, w64, FitsSigned, refl, ap, sym, subst, ◌∙◌, arith, rules}
+use Rattle.std.proofs.Common.{List, ℕ, to_z-of_z, w64, FitsSigned, ap, sym, subst, rules}
 use Rattle.cs_types.specs.declared.value.Value.TheVariants.{Timestamp}
-use Rattle.cs_types.specs.declared.moment.StampFault.TheVariants.{Shape, Range, TooFine}
+use Rattle.cs_types.specs.declared.moment.StampFault.TheVariants.{Range, TooFine}
 use Rattle.cs_types.specs.Moment.{SpellsMoment, IsMomentShape, IsMomentFault}
 use Rattle.cs_types.specs.Value.{held}
 use Rattle.cs_types.proofs.TimestampReading.{moment_read, moment_bad, moment_outside, moment_too_fine, no_member}

@@ -1,5 +1,5 @@
-use Rattle.std.proofs.Common.{◌≡◌, Ok, rules, sym, ap, ◌∙◌}
-use Rattle.cs_types.specs.Value.{value_reading, value_data}
+use Rattle.std.proofs.Common.{ap, ◌∙◌}
+use Rattle.cs_types.specs.Value.{value_reading}
 use Rattle.cs_types.proofs.ReadBack.{reads_back}
 use Rattle.cs_types.proofs.value.Value.to_tree.Goals as goal
 
