@@ -1,16 +1,15 @@
 -- Tokens that stand alone: with a blank behind it, the bytes of a token are read as that token.
-use Rattle.std.proofs.Common.{◌≡◌, ℕ, zero, suc, ◌+◌, ◌-◌, ◌≤◌, ◌<◌, Bool, true, false, cond, ◌&&◌, ◌||◌, not, ◌⊎◌, inl, inr, List, [], ◌∷◌, ◌++◌, length, take, drop, Option, Some, None, refl, sym, ap, subst, ◌∙◌, append_assoc, arith}
-use Rattle.std.specs.Prelude.{nat_lt, nat_le, nat_eq, unwrap_or, position, slice_index, ◌==◌, codes}
+use Rattle.std.proofs.Common.{◌≡◌, ℕ, zero, suc, ◌+◌, ◌≤◌, Bool, true, false, cond, ◌&&◌, not, ◌⊎◌, inl, inr, List, [], ◌∷◌, ◌++◌, length, take, drop, Option, Some, None, refl, sym, ap, subst, ◌∙◌, arith}
+use Rattle.std.specs.Prelude.{nat_lt, unwrap_or, slice_index, ◌==◌, codes}
 use Rattle.std.specs.List.{position_or_len}
-use Rattle.std.specs.Char.{is_ascii_alphanumeric, is_ascii_alphabetic, is_ascii_digit}
+use Rattle.std.specs.Char.{is_ascii_alphabetic, is_ascii_digit}
 use Rattle.std.proofs.lemmas.Bool.Decides.{nat_tests}
-use Rattle.std.proofs.lemmas.List.{take_all, drop_at, take_at, length-take}
 use Rattle.std.proofs.lemmas.List.Recursion.{is_position_or_len}
 use Rattle.cs_ddl.specs.declared.token.Kind.{Kind}
 use Rattle.cs_ddl.specs.declared.token.Kind.TheVariants as kinds
 use Rattle.cs_ddl.specs.Token.{Lexeme}
-use Rattle.cs_ddl.specs.Lex.{is_blank, is_word_byte, count_before, word_len, digits_len, ends_text, text_len, has_at, quoted, quoted_text, negative, equals, kind_and_len, token_of, cut}
-use Rattle.cs_ddl.proofs.Cutting.{cut_skip, cut_blank, cut_token}
+use Rattle.cs_ddl.specs.Lex.{is_blank, is_word_byte, count_before, word_len, digits_len, ends_text, has_at, quoted, quoted_text, negative, equals, kind_and_len, token_of, cut}
+use Rattle.cs_ddl.proofs.Cutting.{cut_skip, cut_token}
 
 pub record Alone (t : Lexeme) : Type 0 where
   pub is : (at : ℕ) (rest : List ℕ) → cut 0 at (t.text ++ 32 ∷ rest) ≡ record { kind = t.kind; text = t.text; at = at } ∷ cut 0 (at + length t.text) (32 ∷ rest)

@@ -1,9 +1,9 @@
 -- What ends a text: one sign may stand there, and nothing else.
-use Rattle.std.proofs.Common.{◌≡◌, ℕ, suc, Bool, true, false, cond, ◌||◌, ◌⊎◌, inl, inr, List, [], ◌∷◌, ◌++◌, length, Option, Some, None, Result, Ok, Err, refl, sym, ap, subst, ◌∙◌}
+use Rattle.std.proofs.Common.{◌≡◌, ℕ, suc, true, false, inl, inr, List, [], ◌∷◌, length, Some, Result, Ok, Err, refl, sym, ap}
 use Rattle.std.specs.Prelude.{codes}
 use Rattle.cs_ddl.specs.declared.token.Kind.TheVariants.{Open, Comma, Semicolon}
 use Rattle.cs_ddl.specs.declared.tree.Statement.{Statement}
-use Rattle.cs_ddl.specs.Token.{Lexeme, is_kind, is_word}
+use Rattle.cs_ddl.specs.Token.{Lexeme, is_kind}
 use Rattle.cs_ddl.specs.declared.fault.Refusal.{Refusal}
 use Rattle.cs_ddl.specs.Lex.{tokens_of}
 use Rattle.cs_ddl.specs.Text.{IsTextOf, Answers, IsThis, answer_of}
@@ -14,7 +14,7 @@ use Rattle.cs_ddl.specs.Grammars.{statements}
 use Rattle.cs_ddl.proofs.Laws.{Opens, SameHead, true_or_false}
 use Rattle.cs_ddl.proofs.Words.{other_kind, sign_is_no_word}
 use Rattle.cs_ddl.proofs.Productions.{statement_rule, stream_cont}
-use Rattle.cs_ddl.proofs.Whole.{ended, Ending, FailedEnd, Reader, answers, is_this}
+use Rattle.cs_ddl.proofs.Whole.{Ending, FailedEnd, Reader, answers, is_this}
 
 abbrev pub semicolon : List Part
 semicolon = May (Sign Semicolon) ∷ []

@@ -1,6 +1,5 @@
 -- What each way of reading keeps: what it takes is spelled so, what is spelled so it takes, and it looks at one token ahead.
-use Rattle.std.proofs.Common.{◌≡◌, ℕ, zero, suc, Bool, true, false, cond, ◌⊎◌, inl, inr, List, [], ◌∷◌, ◌++◌, length, Option, Some, None, Result, Ok, Err, refl, sym, ap, subst, ◌∙◌, append_assoc, arith}
-use Rattle.std.proofs.lemmas.List.{append-nil}
+use Rattle.std.proofs.Common.{◌≡◌, ℕ, suc, Bool, true, false, cond, ◌⊎◌, inl, inr, List, [], ◌∷◌, ◌++◌, length, Option, Some, None, Result, Ok, Err, refl, sym, ap, subst, ◌∙◌, append_assoc}
 use Rattle.cs_ddl.specs.Token.{Lexeme}
 use Rattle.cs_ddl.specs.Reading.{Read, ◌>>=◌, token_at, pure, both, mapped, after, choose, starts, behind}
 use Rattle.cs_ddl.specs.Grammar.{Item, Stands, Part, Must, May, Never, Matches}

@@ -1,13 +1,13 @@
 -- Lists of parts keep the laws. `tr` says whether a comma may be trailing.
-use Rattle.std.proofs.Common.{◌≡◌, ◌≤◌, ◌+◌, ℕ, zero, suc, Bool, true, false, cond, ◌||◌, ◌⊎◌, inl, inr, List, [], ◌∷◌, ◌++◌, length, Option, Some, None, Result, Ok, Err, refl, sym, ap, subst, ◌∙◌, append_assoc, arith}
+use Rattle.std.proofs.Common.{◌≡◌, ◌≤◌, ◌+◌, ℕ, zero, suc, Bool, true, false, cond, ◌||◌, inl, inr, List, [], ◌∷◌, ◌++◌, length, Result, Ok, Err, refl, sym, ap, subst, ◌∙◌, append_assoc, arith}
 use Rattle.std.proofs.lemmas.List.{append-nil, length-append}
 use Rattle.cs_ddl.specs.declared.token.Kind.TheVariants.{Comma, Close}
 use Rattle.cs_ddl.specs.Token.{Lexeme, is_kind}
-use Rattle.cs_ddl.specs.Reading.{Read, ◌>>=◌, starts, behind, starts_with_sign}
+use Rattle.cs_ddl.specs.Reading.{Read, ◌>>=◌, behind, starts_with_sign}
 use Rattle.cs_ddl.specs.Lists.{parts_at, list_at, with_front, ends_behind}
-use Rattle.cs_ddl.specs.Grammar.{Item, Sign, Stands, Part, Must, May, Never, Matches, others, separated, trail}
+use Rattle.cs_ddl.specs.Grammar.{Part, Matches, others, separated, trail}
 use Rattle.cs_ddl.proofs.Alone.{AllAlone}
-use Rattle.cs_ddl.proofs.Laws.{bind_ok, bind_err, done, ok_is, SameHead, SameHead-front, Matches-append, Opens, Took, Failed, Laws, any, Sample, sample, chosen, starts_is, starts-same, head_of}
+use Rattle.cs_ddl.proofs.Laws.{bind_ok, bind_err, done, ok_is, SameHead, SameHead-front, Matches-append, Opens, Took, Failed, Laws, any, chosen, starts_is, starts-same, head_of}
 
 -- a part has a token at least
 pub record IsLong {A : Type 0} (spell : A → List Part) : Type 0 where

@@ -1,11 +1,10 @@
 -- Reading parts one after the other, as a loop does.
-use Rattle.std.proofs.Common.{◌≡◌, ℕ, zero, suc, ◌-◌, ◌+◌, ◌≤◌, ◌<◌, Bool, true, false, cond, List, [], ◌∷◌, ◌++◌, length, Result, Ok, Err, refl, sym, ap, subst, ◌∙◌, append_assoc, arith}
-use Rattle.std.proofs.lemmas.List.{append-nil}
+use Rattle.std.proofs.Common.{◌≡◌, ℕ, suc, ◌-◌, ◌+◌, ◌≤◌, ◌<◌, Bool, true, false, List, [], ◌∷◌, ◌++◌, length, Result, Ok, Err, refl, sym, ap, subst, ◌∙◌, append_assoc, arith}
 use Rattle.cs_ddl.specs.declared.fault.Refusal.{Refusal}
 use Rattle.cs_ddl.specs.declared.fault.Refusal.TheVariants as refusals
 use Rattle.cs_ddl.specs.declared.token.Kind.TheVariants.{Comma}
 use Rattle.cs_ddl.specs.Token.{Lexeme}
-use Rattle.cs_ddl.specs.Reading.{Read, ◌>>=◌, Fails, Gives, behind, starts_with_sign}
+use Rattle.cs_ddl.specs.Reading.{Read, Fails, Gives, behind, starts_with_sign}
 use Rattle.cs_ddl.specs.Lists.{parts_at, with_front, ends_behind}
 
 regroup : {A : Type 0} (front : List A) (x : A) (read : Read (List A)) → with_front front (with_front (x ∷ []) read) ≡ with_front (front ++ x ∷ []) read

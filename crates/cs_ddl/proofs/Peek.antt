@@ -1,9 +1,9 @@
 -- A choice that leaves the token where it is.
-use Rattle.std.proofs.Common.{◌≡◌, ℕ, Bool, true, false, cond, ◌⊎◌, inl, inr, List, [], ◌∷◌, ◌++◌, Result, Ok, Err, refl, sym, ap, subst, ◌∙◌}
+use Rattle.std.proofs.Common.{◌≡◌, Bool, true, false, ◌⊎◌, inl, inr, List, [], ◌∷◌, ◌++◌, Ok, Err, sym, ◌∙◌}
 use Rattle.cs_ddl.specs.Token.{Lexeme}
 use Rattle.cs_ddl.specs.Reading.{Read, peek, starts}
 use Rattle.cs_ddl.specs.Grammar.{Part, Matches}
-use Rattle.cs_ddl.proofs.Laws.{Laws, Took, Failed, Opens, SameHead, SameHead-front, starts-same, chosen}
+use Rattle.cs_ddl.proofs.Laws.{Laws, Opens, SameHead, SameHead-front, starts-same, chosen}
 
 pub same_start : (test : Lexeme → Bool) (b : Bool) (ts front us vs : List Lexeme) → starts test ts ≡ b → ts ≡ front ++ us → SameHead us vs → starts test (front ++ vs) ≡ b
 same_start test b ts front us vs h parts same = sym (starts-same test (front ++ us) (front ++ vs) (SameHead-front front us vs same)) ∙ rw (← parts) h

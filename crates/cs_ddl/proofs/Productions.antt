@@ -1,8 +1,8 @@
 -- The laws of each production.
-use Rattle.std.proofs.Common.{◌≡◌, ℕ, Bool, true, false, ◌||◌, ◌⊎◌, inl, inr, List, [], ◌∷◌, ◌++◌, Option, Some, None, refl, sym, ap, subst, ◌∙◌, append_assoc}
+use Rattle.std.proofs.Common.{◌≡◌, ℕ, Bool, true, false, ◌||◌, ◌⊎◌, inl, inr, List, [], ◌∷◌, ◌++◌, Option, Some, refl, ap, subst}
 use Rattle.std.proofs.lemmas.List.{append-nil}
 use Rattle.std.specs.Prelude.{codes}
-use Rattle.std.specs.Str.{str_to_ascii_lowercase, bytes_eq}
+use Rattle.std.specs.Str.{str_to_ascii_lowercase}
 use Rattle.std.proofs.lemmas.Slice.Eq.{bytes_eq-Decides}
 use Rattle.cs_ddl.specs.declared.token.Kind.{Kind}
 use Rattle.cs_ddl.specs.declared.token.Kind.TheVariants as kinds
@@ -21,16 +21,16 @@ use Rattle.cs_ddl.specs.declared.tree.OptionValue.TheVariants as values
 use Rattle.cs_ddl.specs.declared.tree.OptionTree.{OptionTree}
 use Rattle.cs_ddl.specs.declared.grammar.Change.{Change}
 use Rattle.cs_ddl.specs.declared.grammar.Change.TheVariants as changes
-use Rattle.cs_ddl.specs.Token.{Lexeme, is_kind, is_word, is_name, name_in, is_number, number_of, inner}
-use Rattle.cs_ddl.specs.Reading.{Read, token_at, word_at, sign_at, name_at, number_at, text_at, may_word_at, pure, both, mapped, after, before, choose}
+use Rattle.cs_ddl.specs.Token.{Lexeme, is_kind, is_word, is_name, name_in, is_number, inner}
+use Rattle.cs_ddl.specs.Reading.{word_at, sign_at, name_at, number_at, text_at, may_word_at, mapped, after, before}
 use Rattle.cs_ddl.specs.Lists.{list_at}
 use Rattle.cs_ddl.specs.Productions.{columns_at, item_at, watch_at, for_at, size_at, sized_at, type_at, not_null_at, column_at, key_at, column_list_at, key_list_at, table_at, value_at, option_at, option_list_at, options_at, stream_at, set_at, change_at, changed, alter_stream_at, add_column_at, alter_at, create_at, drop_at, statement_at}
-use Rattle.cs_ddl.specs.Grammar.{Item, Keyword, Sign, Name, Digits, Quoted, Stands, Part, Must, May, Never, Matches, keyword, sign, name, others, separated, listed, columns, item, watch, for_watch, size, sized, ty, not_null, column, key, column_list, key_list, trail, value, option, option_list, options, stream, statement, text}
+use Rattle.cs_ddl.specs.Grammar.{Keyword, Sign, Name, Digits, Quoted, Part, Must, May, Matches, keyword, sign, name, separated, listed, columns, item, watch, for_watch, size, sized, ty, not_null, column, key, column_list, key_list, value, option, option_list, options, stream, statement}
 use Rattle.cs_ddl.proofs.Alone.{is_spelled, word_alone, sample_of, sample_alone}
 use Rattle.cs_ddl.proofs.Laws.{Opens, Opens-weaker, any, firm, token_laws}
 use Rattle.cs_ddl.proofs.Rules.{Rule, wider, respelled, same_texts, all_values, both_rule, firm_both, after_rule, variant, as_record, before_rule, choice, nothing, maybe_rule, may_rule, plain_list, closed_list, or_word, last_word, no_word}
-use Rattle.cs_ddl.proofs.ListLaws.{IsLong, Parts, list_cont}
-use Rattle.cs_ddl.proofs.Words.{other_kind, other_word, sign_is_no_word, word_is_no_sign, name_is_no_sign, name_is_not, number_is_no_word, or_left, or_right}
+use Rattle.cs_ddl.proofs.ListLaws.{list_cont}
+use Rattle.cs_ddl.proofs.Words.{other_kind, other_word, sign_is_no_word, word_is_no_sign, name_is_no_sign, name_is_not, number_is_no_word, or_left}
 
 -- ---- single tokens
 

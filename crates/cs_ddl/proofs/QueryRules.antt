@@ -1,8 +1,8 @@
 -- The laws of each production of the query.
-use Rattle.std.proofs.Common.{◌≡◌, ℕ, zero, suc, Bool, true, false, ◌&&◌, ◌||◌, not, ◌⊎◌, inl, inr, List, [], ◌∷◌, ◌++◌, length, Option, Some, None, Result, Ok, Err, refl, sym, ap, subst, ◌∙◌, append_assoc}
+use Rattle.std.proofs.Common.{◌≡◌, ℕ, zero, suc, Bool, true, false, ◌⊎◌, inl, inr, List, [], ◌∷◌, ◌++◌, length, Option, Some, None, Ok, Err, refl, sym, ap, subst, ◌∙◌, append_assoc}
 use Rattle.std.proofs.lemmas.List.{append-nil, length-map}
 use Rattle.std.specs.Prelude.{codes, nat_eq, nat_le}
-use Rattle.std.specs.Str.{str_eq_ignore_ascii_case, str_to_ascii_lowercase}
+use Rattle.std.specs.Str.{str_eq_ignore_ascii_case}
 use Rattle.std.specs.Char.{to_ascii_lowercase}
 use Rattle.cs_ddl.specs.declared.token.Kind.{Kind}
 use Rattle.cs_ddl.specs.declared.token.Kind.TheVariants as kinds
@@ -10,15 +10,13 @@ use Rattle.cs_ddl.specs.declared.tree.Literal.{Literal}
 use Rattle.cs_ddl.specs.declared.tree.Literal.TheVariants as literals
 use Rattle.cs_ddl.specs.declared.tree.Argument.{Argument}
 use Rattle.cs_ddl.specs.Token.{Lexeme, is_kind, is_word, is_name, is_function, name_in, is_number, is_reserved, same_kind, number_of}
-use Rattle.cs_ddl.specs.Reading.{Read, ◌>>=◌, behind, starts, pure, both, mapped, after, before, choose, peek, token_at, word_at, sign_at, name_at, function_at, number_at, text_at}
-use Rattle.cs_ddl.specs.Lists.{list_at}
+use Rattle.cs_ddl.specs.Reading.{Read, ◌>>=◌, starts, pure, both, mapped, after, choose, peek, word_at, sign_at, function_at, text_at}
 use Rattle.cs_ddl.specs.QueryReading.{plain_at, literal_at, argument_at, named_at}
 use Rattle.cs_ddl.specs.Query.{literal, argument, Places, End, Next, Full, behind_place, Arguments, Without, Named, Placed, arguments, query_head}
-use Rattle.cs_ddl.specs.Grammar.{Item, Keyword, Sign, Name, Function, Digits, Quoted, Stands, Part, Must, May, Never, Matches, keyword, sign, name, others, separated}
+use Rattle.cs_ddl.specs.Grammar.{Keyword, Sign, Function, Quoted, Part, Must, Matches, keyword, sign, others, separated}
 use Rattle.cs_ddl.proofs.Alone.{sample_of, sample_alone}
 use Rattle.cs_ddl.proofs.Laws.{Took, Failed, Laws, Opens, any, firm, token_laws, chosen, true_or_false, bind_ok, bind_err, ok_is, mapped_laws, both_laws, spelled_both, of_both}
 use Rattle.cs_ddl.proofs.Rules.{Rule, wider, respelled, same_texts, all_values, firm_both, after_rule, variant, as_record, choice, nothing, closed_list}
-use Rattle.cs_ddl.proofs.ListLaws.{IsLong, Parts}
 use Rattle.cs_ddl.proofs.Peek.{peek_laws, same_start}
 use Rattle.cs_ddl.proofs.Words.{and_true, other_kind, other_word, sign_is_no_word, word_is_no_sign, name_is_no_sign, name_is_not, number_is_no_word, or_left, or_right, is_word-lower}
 use Rattle.cs_ddl.proofs.Productions.{word_rule, sign_rule, name_rule, number_rule, text_rule}

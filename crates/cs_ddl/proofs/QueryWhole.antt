@@ -1,5 +1,5 @@
 -- The query is read as its spelling, which is then its tree.
-use Rattle.std.proofs.Common.{◌≡◌, ℕ, zero, suc, Bool, true, false, cond, ◌⊎◌, inl, inr, List, [], ◌∷◌, ◌++◌, length, Option, Some, None, Result, Ok, Err, refl, sym, ap, subst, ◌∙◌}
+use Rattle.std.proofs.Common.{◌≡◌, ℕ, zero, suc, true, false, cond, inl, inr, List, [], ◌∷◌, ◌++◌, length, Option, Some, None, Result, Ok, Err, refl, sym, ap, subst, ◌∙◌}
 use Rattle.std.proofs.lemmas.List.{append-nil}
 use Rattle.std.specs.Prelude.{codes}
 use Rattle.cs_ddl.specs.declared.token.Kind.TheVariants as kinds
@@ -10,18 +10,18 @@ use Rattle.cs_ddl.specs.declared.tree.Argument.{Argument}
 use Rattle.cs_ddl.specs.declared.tree.ReadQuery.{ReadQuery}
 use Rattle.cs_ddl.specs.Token.{Lexeme, is_kind, is_word, is_name}
 use Rattle.cs_ddl.specs.Lex.{tokens_of}
-use Rattle.cs_ddl.specs.Reading.{Read, ◌>>=◌, Gives, behind, starts, pure, both, mapped, after, before, choose, peek, word_at, sign_at, name_at, function_at, text_at, spelled_at, whole}
+use Rattle.cs_ddl.specs.Reading.{Read, ◌>>=◌, Gives, behind, starts, both, mapped, after, word_at, sign_at, function_at, text_at, spelled_at, whole}
 use Rattle.cs_ddl.specs.Lists.{list_at, with_front}
 use Rattle.cs_ddl.specs.Productions.{end_at}
-use Rattle.cs_ddl.specs.Grammar.{Part, Matches}
+use Rattle.cs_ddl.specs.Grammar.{Matches}
 use Rattle.cs_ddl.specs.Grammars.{queries}
 use Rattle.cs_ddl.specs.Text.{IsTextOf, Answers, IsThis, answer_of}
-use Rattle.cs_ddl.specs.Query.{Places, End, Next, Full, Arguments, Without, Named, Placed, place_name, placed, arguments_of, with_function, query_tree, query_head, query_end}
+use Rattle.cs_ddl.specs.Query.{Places, End, Next, Full, Arguments, Named, Placed, place_name, placed, arguments_of, with_function, query_tree, query_head, query_end}
 use Rattle.cs_ddl.specs.QueryReading.{plain_at, literal_at, argument_at, named_at, named_behind_at, placed_at, first_at, timestamp_at, arguments_at, query_finish, select_at, called_at, query_at}
 use Rattle.cs_ddl.proofs.Laws.{true_or_false, firm}
 use Rattle.cs_ddl.proofs.Ends.{end_ending}
 use Rattle.cs_ddl.proofs.Whole.{ended, Ending, Reader, answers, is_this}
-use Rattle.cs_ddl.proofs.QueryRules.{no_arguments, no_more, one_more, First, Stamp, NameOf, stamp_first, name_first, places_at, others_at, start_at, of_start, by_place, stamped_at, plain_first_at, some_at, style_at, stamp_word, spelling_at, query_rule}
+use Rattle.cs_ddl.proofs.QueryRules.{no_arguments, no_more, one_more, First, stamp_first, name_first, places_at, others_at, start_at, of_start, by_place, stamped_at, plain_first_at, some_at, style_at, stamp_word, spelling_at, query_rule}
 
 abbrev Trees : Type 0
 Trees = Option (List Argument)

@@ -1,13 +1,13 @@
 -- Tokens that stand alone, written one behind the other, are a text that has them.
-use Rattle.std.proofs.Common.{◌≡◌, ℕ, zero, suc, ◌+◌, Bool, true, false, ◌&&◌, not, ◌⊎◌, inl, inr, List, [], ◌∷◌, ◌++◌, length, Option, Some, None, refl, sym, ap, subst, ◌∙◌, append_assoc}
+use Rattle.std.proofs.Common.{◌≡◌, ℕ, ◌+◌, true, inl, inr, List, [], ◌∷◌, ◌++◌, length, Option, Some, None, refl, sym, ap, subst, ◌∙◌}
 use Rattle.cs_ddl.specs.declared.token.Kind.{Kind}
 use Rattle.cs_ddl.specs.declared.token.Kind.TheVariants as kinds
-use Rattle.cs_ddl.specs.Token.{Lexeme, same_kind, is_kind, is_word, is_name_within, is_reserved}
+use Rattle.cs_ddl.specs.Token.{Lexeme, same_kind, is_kind, is_name_within}
 use Rattle.std.specs.Str.{str_eq_ignore_ascii_case}
 use Rattle.cs_ddl.specs.Lex.{tokens_of, cut}
 use Rattle.cs_ddl.specs.Grammar.{Item, Keyword, Sign, Name, Function, Digits, Quoted, Stands, Part, Must, May, Never, Matches}
 use Rattle.cs_ddl.specs.Text.{Grammar, Begins, word_of, words}
-use Rattle.cs_ddl.proofs.Alone.{Alone, AllAlone, AllAlone-append, KindsAlone, tokens_alone}
+use Rattle.cs_ddl.proofs.Alone.{AllAlone, AllAlone-append, KindsAlone, tokens_alone}
 use Rattle.cs_ddl.proofs.Cutting.{cut_blank}
 use Rattle.cs_ddl.proofs.Words.{and_true, name_kind}
 

@@ -1,12 +1,12 @@
 -- The laws of each form of production, from the laws of its parts.
-use Rattle.std.proofs.Common.{◌≡◌, ℕ, Bool, true, false, ◌||◌, ◌⊎◌, inl, inr, List, [], ◌∷◌, ◌++◌, Option, Some, None, Result, Ok, Err, refl, sym, ap, subst, ◌∙◌}
+use Rattle.std.proofs.Common.{◌≡◌, ℕ, Bool, true, false, ◌||◌, ◌⊎◌, inl, inr, List, [], ◌∷◌, ◌++◌, Option, Some, None, Ok, Err, refl, sym, subst, ◌∙◌}
 use Rattle.cs_ddl.specs.Token.{Lexeme, is_kind, is_word}
 use Rattle.cs_ddl.specs.Reading.{Read, pure, both, mapped, after, before, choose, maybe_at, may_at, word_at, sign_at, starts, behind, starts_with_sign}
 use Rattle.cs_ddl.specs.Lists.{list_at}
 use Rattle.cs_ddl.specs.Grammar.{Item, Sign, Keyword, Stands, Part, Must, May, Matches, separated, spelled_maybe, sign}
-use Rattle.cs_ddl.proofs.Laws.{Took, Failed, done, chosen, starts_is, starts-same, ok_is, Laws, Opens, Opens-weaker, any, firm, pure_laws, mapped_laws, both_laws, spelled_both, of_both, choose_laws, adjusted, every, after_laws}
+use Rattle.cs_ddl.proofs.Laws.{Took, Failed, done, chosen, starts_is, starts-same, ok_is, Laws, Opens, any, firm, pure_laws, mapped_laws, both_laws, spelled_both, choose_laws, adjusted, every, after_laws}
 use Rattle.cs_ddl.proofs.ListLaws.{IsLong, Parts, AfterList, list_cont, list_laws, spelled_list}
-use Rattle.cs_ddl.proofs.Words.{other_kind, other_word, or_right}
+use Rattle.cs_ddl.proofs.Words.{other_kind, other_word}
 use Rattle.std.specs.Str.{str_to_ascii_lowercase, bytes_eq}
 use Rattle.std.proofs.lemmas.Slice.Eq.{bytes_eq-Decides}
 use Rattle.std.proofs.lemmas.List.{append-nil}

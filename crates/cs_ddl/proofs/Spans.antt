@@ -1,8 +1,7 @@
 -- Tokens are slices, in order.
-use Rattle.std.proofs.Common.{◌≡◌, ℕ, zero, suc, ◌+◌, ◌-◌, ◌≤◌, ◌<◌, Bool, true, false, ◌⊎◌, inl, inr, List, [], ◌∷◌, ◌++◌, length, get_or, take, drop, refl, sym, ap, subst, ◌∙◌, append_assoc, arith}
-use Rattle.std.proofs.lemmas.List.{drop-drop, drop_more, take_rest, drop_all, length-take, length-drop, take_all}
-use Rattle.cs_ddl.specs.Token.{Lexeme}
-use Rattle.cs_ddl.specs.Lex.{is_blank, kind_and_len, token_of, cut, AreSpans, tokens_of}
+use Rattle.std.proofs.Common.{◌≡◌, ℕ, zero, suc, ◌+◌, ◌≤◌, inl, inr, List, [], ◌∷◌, length, take, drop, refl, sym, ap, ◌∙◌, arith}
+use Rattle.std.proofs.lemmas.List.{drop-drop, length-take}
+use Rattle.cs_ddl.specs.Lex.{is_blank, kind_and_len, cut, AreSpans, tokens_of}
 use Rattle.cs_ddl.proofs.Laws.{true_or_false}
 
 -- what was taken is as long as it is

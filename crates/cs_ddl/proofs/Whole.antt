@@ -1,16 +1,16 @@
 -- A whole text is read exactly, in any grammar whose reader keeps the laws.
-use Rattle.std.proofs.Common.{◌≡◌, ℕ, zero, suc, Bool, true, false, cond, ◌||◌, ◌⊎◌, inl, inr, List, [], ◌∷◌, ◌++◌, length, Option, Some, None, Result, Ok, Err, refl, sym, ap, subst, ◌∙◌, append_assoc, ◌+◌, ◌-◌, ◌≤◌, drop, arith}
+use Rattle.std.proofs.Common.{◌≡◌, ℕ, suc, inl, inr, List, [], ◌∷◌, ◌++◌, length, Option, Some, None, Result, Ok, Err, refl, sym, ap, subst, ◌∙◌, append_assoc, ◌+◌, ◌-◌, drop, arith}
 use Rattle.std.proofs.lemmas.List.{append-nil, length-append, drop_at}
 use Rattle.cs_ddl.specs.Lex.{tokens_of}
 use Rattle.cs_ddl.specs.Text.{Grammar, IsTextOf, Begins, StopsBefore, place_of, IsFaultAt, Answers, IsThis, answer_of, words}
 use Rattle.cs_ddl.specs.declared.fault.Refusal.{Refusal}
 use Rattle.cs_ddl.specs.declared.fault.Refusal.TheVariants as refusals
 use Rattle.cs_ddl.specs.Token.{Lexeme}
-use Rattle.cs_ddl.specs.Reading.{Read, ◌>>=◌, Gives, Fails, whole}
+use Rattle.cs_ddl.specs.Reading.{Read, ◌>>=◌, Gives, whole}
 use Rattle.cs_ddl.specs.Grammar.{Part, Matches}
-use Rattle.cs_ddl.proofs.Alone.{AllAlone, AllAlone-append, tokens_alone}
+use Rattle.cs_ddl.proofs.Alone.{AllAlone}
 use Rattle.cs_ddl.proofs.Laws.{bind_ok, bind_err, Matches-append, Took, Failed, Laws, SameHead, SameHead-front, any}
-use Rattle.cs_ddl.proofs.Render.{begins, tokens_from, Matches-words, words-append, words-from}
+use Rattle.cs_ddl.proofs.Render.{begins, tokens_from, Matches-words, words-from}
 
 -- ---- what ends a text
 

@@ -1,11 +1,11 @@
 -- Which tests exclude one another.
-use Rattle.std.proofs.Common.{◌≡◌, ℕ, Bool, true, false, ◌&&◌, ◌||◌, not, ◌⊎◌, inl, inr, List, [], ◌∷◌, Option, Some, None, refl, sym, ap, ◌∙◌, arith}
-use Rattle.std.specs.Prelude.{codes, nat_eq}
-use Rattle.std.specs.Str.{str_eq_ignore_ascii_case, str_to_ascii_lowercase, bytes_eq}
+use Rattle.std.proofs.Common.{◌≡◌, ℕ, Bool, true, false, ◌&&◌, ◌||◌, not, ◌⊎◌, inl, inr, List, Option, Some, None, refl, sym, ◌∙◌, arith}
+use Rattle.std.specs.Prelude.{nat_eq}
+use Rattle.std.specs.Str.{str_eq_ignore_ascii_case, str_to_ascii_lowercase}
 use Rattle.std.proofs.lemmas.Bool.Decides.{nat_tests}
 use Rattle.std.proofs.lemmas.Slice.Eq.{bytes_eq-Decides}
 use Rattle.cs_ddl.specs.declared.token.Kind.{Kind}
-use Rattle.cs_ddl.specs.declared.token.Kind.TheVariants.{Word, Quoted, Text, Number, Open, Close, Comma, Semicolon, Equals}
+use Rattle.cs_ddl.specs.declared.token.Kind.TheVariants.{Word, Quoted, Number}
 use Rattle.cs_ddl.specs.Token.{Lexeme, same_kind, is_kind, is_word, is_name_within, is_number, is_reserved, number_of}
 use Rattle.cs_ddl.proofs.Laws.{true_or_false}
 

@@ -1,5 +1,5 @@
 -- The grammar of the statements: the parts that a statement's text has, in order. This project's own, after the data definition statements of GoogleSQL for Spanner.
-use Rattle.std.specs.Prelude.{◌≡◌, ℕ, Bool, true, false, List, [], ◌∷◌, ◌++◌, length, Option, Some, None, Result, Ok, Err, ◌⊎◌, codes}
+use Rattle.std.specs.Prelude.{◌≡◌, ℕ, Bool, true, false, List, [], ◌∷◌, ◌++◌, Option, Some, None, ◌⊎◌, codes}
 use Rattle.cs_ddl.specs.declared.token.Kind.{Kind}
 use Rattle.cs_ddl.specs.declared.token.Kind.TheVariants.{Open, Close, Comma, Semicolon, Equals, Text}
 use Rattle.cs_ddl.specs.declared.tree.Size.{Size}

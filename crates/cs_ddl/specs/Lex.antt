@@ -1,5 +1,5 @@
 -- The tokens of a text, from left to right, each as long as it can be. This project's own, after the lexical structure of GoogleSQL.
-use Rattle.std.specs.Prelude.{◌≡◌, ◌≤◌, ◌<◌, drop, ℕ, zero, suc, ◌+◌, ◌-◌, Bool, true, false, not, ◌||◌, ◌&&◌, ◌==◌, List, [], ◌∷◌, length, take, Option, Some, None, unwrap_or, position, slice_index, nat_le, nat_lt, if◌then◌else◌, codes}
+use Rattle.std.specs.Prelude.{◌≡◌, ◌≤◌, ◌<◌, drop, ℕ, zero, suc, ◌+◌, Bool, not, ◌||◌, ◌&&◌, ◌==◌, List, [], ◌∷◌, length, take, Option, Some, None, unwrap_or, position, slice_index, nat_lt, if◌then◌else◌}
 use Rattle.std.specs.Char.{is_ascii_alphanumeric, is_ascii_alphabetic, is_ascii_digit}
 use Rattle.cs_ddl.specs.declared.token.Kind.{Kind}
 use Rattle.cs_ddl.specs.declared.token.Kind.TheVariants as kinds

@@ -1,5 +1,5 @@
 -- Parts with commas between them.
-use Rattle.std.specs.Prelude.{◌≡◌, ℕ, zero, suc, Bool, ◌&&◌, List, [], ◌∷◌, ◌++◌, length, Result, Ok, Err, if◌then◌else◌}
+use Rattle.std.specs.Prelude.{ℕ, zero, suc, Bool, ◌&&◌, List, [], ◌∷◌, ◌++◌, length, Ok, Err, if◌then◌else◌}
 use Rattle.cs_ddl.specs.declared.token.Kind.TheVariants.{Comma, Close}
 use Rattle.cs_ddl.specs.Token.{Lexeme}
 use Rattle.cs_ddl.specs.Reading.{Read, ◌>>=◌, behind, starts_with_sign}

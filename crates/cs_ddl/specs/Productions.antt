@@ -1,5 +1,5 @@
 -- How each production is read.
-use Rattle.std.specs.Prelude.{ℕ, suc, Bool, true, false, List, [], ◌∷◌, length, Option, Some, None, Result, Ok, Err, if◌then◌else◌, codes}
+use Rattle.std.specs.Prelude.{ℕ, suc, Bool, true, false, List, [], ◌∷◌, length, Option, Result, Ok, Err, if◌then◌else◌, codes}
 use Rattle.cs_ddl.specs.declared.token.Kind.TheVariants.{Open, Close, Semicolon, Equals}
 use Rattle.cs_ddl.specs.declared.tree.Size.{Size}
 use Rattle.cs_ddl.specs.declared.tree.Size.TheVariants.{Max, Number}
@@ -17,7 +17,7 @@ use Rattle.cs_ddl.specs.declared.tree.WatchTree.TheVariants.{All, Tables}
 use Rattle.cs_ddl.specs.declared.tree.Statement.{Statement}
 use Rattle.cs_ddl.specs.declared.tree.Statement.TheVariants.{CreateTable, AddColumn, CreateStream, SetWatch, DropWatch, SetOptions, DropStream}
 use Rattle.cs_ddl.specs.Token.{Lexeme, is_word, is_kind}
-use Rattle.cs_ddl.specs.Reading.{Read, ◌>>=◌, behind, starts_with_sign, pure, both, mapped, after, before, choose, maybe_at, word_at, sign_at, name_at, number_at, text_at, may_word_at, whole}
+use Rattle.cs_ddl.specs.Reading.{Read, behind, starts_with_sign, pure, both, mapped, after, before, choose, maybe_at, word_at, sign_at, name_at, number_at, text_at, may_word_at, whole}
 use Rattle.cs_ddl.specs.Lists.{list_at}
 
 -- "(" [name {"," name}] ")", or nothing

@@ -1,5 +1,5 @@
 -- Reading tokens from left to right: a value and the tokens after it, or how many are left where no more can be read.
-use Rattle.std.specs.Prelude.{◌≡◌, ℕ, zero, suc, Bool, true, false, List, [], ◌∷◌, length, Option, Some, None, Result, Ok, Err, if◌then◌else◌, codes}
+use Rattle.std.specs.Prelude.{◌≡◌, ℕ, suc, Bool, false, List, [], ◌∷◌, length, Option, Some, None, Result, Ok, Err, if◌then◌else◌}
 use Rattle.cs_ddl.specs.declared.fault.Refusal.{Refusal}
 use Rattle.cs_ddl.specs.declared.fault.Refusal.TheVariants as refusals
 use Rattle.cs_ddl.specs.declared.token.Kind.{Kind}

@@ -1,5 +1,5 @@
 -- What a text of bytes stands for in a grammar, and the place of its fault: that of the first token, or the end, with which no text of the grammar goes on. This project's own.
-use Rattle.std.specs.Prelude.{◌≡◌, ◌-◌, ℕ, List, [], ◌∷◌, ◌++◌, length, drop, Option, Some, None, Result, Ok, Err}
+use Rattle.std.specs.Prelude.{◌≡◌, ◌-◌, ℕ, List, [], ◌∷◌, ◌++◌, length, drop, Option, Some, Result, Ok, Err}
 use Rattle.cs_ddl.specs.declared.fault.Refusal.{Refusal}
 use Rattle.cs_ddl.specs.declared.fault.Refusal.TheVariants as refusals
 use Rattle.cs_ddl.specs.declared.fault.SyntaxFault.{SyntaxFault}

@@ -1,5 +1,5 @@
 -- A token is some bytes of a text that stand together, and what they are: a word, a name between backquotes, a text between quotes, a number or a sign. This project's own, after the lexical structure of GoogleSQL.
-use Rattle.std.specs.Prelude.{ℕ, ◌-◌, Bool, true, false, ◌||◌, ◌&&◌, not, List, [], ◌∷◌, length, take, drop, Option, Some, None, nat_eq, nat_le, slice_index, ◌==◌, if◌then◌else◌, codes}
+use Rattle.std.specs.Prelude.{ℕ, ◌-◌, Bool, false, ◌||◌, ◌&&◌, not, List, length, take, drop, Option, Some, None, nat_eq, nat_le, slice_index, ◌==◌, if◌then◌else◌, codes}
 use Rattle.std.specs.Str.{str_eq_ignore_ascii_case}
 use Rattle.cs_ddl.specs.declared.token.Kind.{Kind}
 use Rattle.cs_ddl.specs.declared.token.Kind.TheVariants.{Word, Quoted, Text, Number, Open, Close, Comma, Semicolon, Equals, Arrow}

@@ -1,13 +1,12 @@
 -- What is written for a record is read again as it.
-use Rattle.std.proofs.Common.{◌≡◌, ◌≤◌, ℕ, List, length, Some, Ok, refl, ap, ◌∙◌, IsUtf8, true, is_some, rules}
+use Rattle.std.proofs.Common.{◌≡◌, ◌≤◌, ℕ, List, length, Some, Ok, refl, IsUtf8, true, is_some, rules}
 use Rattle.std.proofs.lemmas.Str.{is_utf8-from_IsUtf8}
 use Rattle.serde_json.specs.Find.{as_object}
-use Rattle.serde_json.specs.Data.{Data}
 use Rattle.serde_json.specs.Read.{read}
 use Rattle.cs_records.specs.declared.records.Record.{Record}
 use Rattle.cs_records.specs.declared.records.Record.TheVariants.{Change, Heartbeat, Children}
 use Rattle.cs_json_reading.specs.Missing.{missing, count, bad_array}
-use Rattle.cs_json_reading.specs.Line.{element_reading, tree_reading, object_reading, of_tree, bytes_reading, line_reading, line_end}
+use Rattle.cs_json_reading.specs.Line.{element_reading, tree_reading, object_reading, bytes_reading, line_reading}
 use Rattle.cs_json_reading.specs.Standing.{CanStand}
 use Rattle.cs_json.specs.Written.{record_data, IsKept}
 use Rattle.cs_json.proofs.Resting.{Laws}

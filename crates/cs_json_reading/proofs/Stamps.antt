@@ -1,5 +1,5 @@
 -- The stamp that a text spells, as a test.
-use Rattle.std.proofs.Common.{◌≡◌, ◌↔◌, ◌<◌, ℕ, List, Bool, true, false, nat_lt, ℤ, pos, negsuc, Option, Some, None, Result, Ok, Err, refl, sym, ◌∙◌, subst, arith, rules}
+use Rattle.std.proofs.Common.{◌≡◌, ◌↔◌, ◌<◌, ℕ, List, Bool, true, false, nat_lt, ℤ, pos, negsuc, Option, Some, None, Result, Ok, Err, refl, subst, arith, rules}
 use Rattle.std.proofs.lemmas.Int.{ints}
 use Rattle.cs_types.specs.declared.value_fault.ValueFault.{ValueFault}
 use Rattle.cs_types.specs.Moment.{SpellsMoment}

@@ -2,7 +2,7 @@
 use Rattle.std.specs.Prelude.{◌≡◌, ℕ, List, [], ◌∷◌, map, Bool, codes, cond, is_some, if◌then◌else◌, Option, Some, None, option_and_then, Ok, Err}
 use Rattle.std.specs.Ordering.{nat_cmp}
 use Rattle.std.specs.Cmp.Lexicographic.{slice_cmp}
-use Rattle.std.specs.BTreeMap.{BTreeMap, is_at, get as at_key}
+use Rattle.std.specs.BTreeMap.{BTreeMap, get as at_key}
 use Rattle.serde_json.specs.Data.{Data}
 use Rattle.serde_json.specs.Find.{get, as_bool, as_str, as_array, as_object}
 use Rattle.cs_types.specs.declared.column_type.ColumnType.{ColumnType}

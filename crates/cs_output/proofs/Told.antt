@@ -1,5 +1,5 @@
 -- What the line of a change tells: with types all of the change.
-use Rattle.std.proofs.Common.{◌≡◌, ℕ, zero, suc, List, [], ◌∷◌, Bool, true, false, All, refl, sym, ap, ◌∙◌, cond, ◌==◌}
+use Rattle.std.proofs.Common.{◌≡◌, ℕ, List, [], ◌∷◌, All, refl, sym, ap, ◌∙◌, cond, ◌==◌}
 use Rattle.std.proofs.lemmas.List.Elements.{All-head, All-tail, All-weaker}
 use Rattle.json.specs.Json as json
 use Rattle.serde_json.specs.Data.{Data, null, boolean, string}
@@ -11,7 +11,6 @@ use Rattle.cs_types.specs.declared.cells.Cell.{Cell}
 use Rattle.cs_types.specs.declared.change.Change.{Change}
 use Rattle.cs_types.specs.declared.change.Kind.{Kind}
 use Rattle.cs_types.specs.declared.change.Kind.TheVariants.{Insert, Update, Delete}
-use Rattle.cs_types.specs.declared.change.RowName.{RowName}
 use Rattle.cs_types.specs.declared.value.Value.{Value}
 use Rattle.cs_types.specs.declared.value.Value.TheVariants.{Null, Bool as Boolean, Int64, Numeric, Text, Bytes, Date, Timestamp}
 use Rattle.cs_output.specs.Line.{change_line}

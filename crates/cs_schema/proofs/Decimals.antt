@@ -1,8 +1,7 @@
 -- Numbers that are read digit by digit from the left are the numbers of their texts.
-use Rattle.std.proofs.Common.{◌≡◌, ◌∙◌, sym, ap, subst, refl, ℕ, ◌+◌, ◌*◌, ◌-◌, ◌≤◌, List, [], ◌∷◌, ◌++◌, Some, None, cond, false, true, Bool, is_some, true≢false, arith, nat_le, ◌&&◌, ◌==◌}
-use Rattle.std.specs.declared.option.Option.{Option}
+use Rattle.std.proofs.Common.{◌≡◌, ◌∙◌, sym, ap, refl, ℕ, ◌+◌, ◌*◌, ◌-◌, ◌≤◌, List, [], ◌∷◌, ◌++◌, Some, None, cond, false, true, Bool, is_some, true≢false, arith, ◌&&◌, ◌==◌}
 use Rattle.std.specs.Char.{digit_value}
-use Rattle.std.specs.Str.Parse.{digits_value, digits_value_after}
+use Rattle.std.specs.Str.Parse.{digits_value_after}
 use Rattle.cs_types.specs.Digits.{all_digits}
 use Rattle.cs_schema.specs.Lengths.{is_digit, length_from, length_if, length_of}
 use Rattle.cs_schema.specs.Options.{hours, days, unit_of, retention_from, IsRetention}

@@ -1,7 +1,7 @@
 -- Names that all differ, and what stands in a list of names.
-use Rattle.std.proofs.Common.{◌≡◌, ◌≢◌, ◌∙◌, sym, ap, subst, refl, ℕ, zero, suc, List, [], ◌∷◌, ◌++◌, Some, None, cond, false, true, Bool, is_some, true≢false, All, AllPairs, Contains, map, append-nil, append_assoc, arith, IsSomeAnd}
+use Rattle.std.proofs.Common.{◌≡◌, ◌≢◌, ◌∙◌, sym, ap, subst, refl, ℕ, suc, List, [], ◌∷◌, ◌++◌, Some, None, cond, false, true, Bool, is_some, true≢false, All, map, append-nil, append_assoc, arith, IsSomeAnd}
 use Rattle.std.specs.declared.option.Option.{Option}
-use Rattle.std.specs.Ordering.{nat_cmp, is_eq}
+use Rattle.std.specs.Ordering.{nat_cmp}
 use Rattle.std.specs.Cmp.{Equal-is}
 use Rattle.std.specs.Cmp.Lexicographic.{slice_cmp, bytes_decides, texts_ties}
 use Rattle.std.specs.Option.{option_or}
@@ -13,7 +13,6 @@ use Rattle.cs_types.specs.Firsts.{first_of}
 use Rattle.cs_schema.specs.declared.types.Column.{Column}
 use Rattle.cs_schema.specs.Faults.{twice_fault, twice_if}
 use Rattle.cs_schema.specs.Tables.{column_names}
-use Rattle.cs_schema.specs.declared.fault.SchemaFault.{SchemaFault}
 use Rattle.cs_schema.specs.Sound.{AreDifferent}
 use Rattle.cs_schema.proofs.Again.{among_more}
 

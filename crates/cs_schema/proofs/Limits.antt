@@ -1,6 +1,5 @@
 -- A length that is not refused is within its range.
-use Rattle.std.proofs.Common.{◌≡◌, sym, ap, subst, refl, ℕ, ◌+◌, ◌-◌, ◌*◌, ◌≤◌, List, [], ◌∷◌, Some, None, cond, false, true, Bool, ◌&&◌, is_some, true≢false, nat_le, arith, IsSomeAnd}
-use Rattle.std.specs.declared.option.Option.{Option}
+use Rattle.std.proofs.Common.{◌≡◌, ap, refl, ℕ, ◌≤◌, List, Some, None, cond, false, true, Bool, ◌&&◌, is_some, true≢false, nat_le, arith}
 use Rattle.std.specs.Str.Parse.{digits_value}
 use Rattle.cs_types.specs.Digits.{all_digits}
 use Rattle.cs_ddl.specs.declared.tree.Size.{Size}

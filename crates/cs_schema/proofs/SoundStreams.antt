@@ -1,8 +1,8 @@
 -- A sound catalog stays sound with a stream more.
-use Rattle.std.proofs.Common.{◌≡◌, ◌∙◌, sym, ap, subst, refl, ℕ, suc, ◌+◌, ◌<◌, ◌≤◌, List, [], ◌∷◌, ◌++◌, length, Some, None, cond, false, true, Bool, is_some, true≢false, All, map, nat_le, IsSomeAnd, get_or, arith, length-append}
+use Rattle.std.proofs.Common.{◌≡◌, ◌∙◌, sym, ap, subst, refl, ℕ, suc, ◌<◌, ◌≤◌, List, [], ◌∷◌, ◌++◌, length, Some, None, cond, false, true, Bool, is_some, true≢false, All, nat_le, IsSomeAnd, get_or, arith, length-append}
 use Rattle.std.specs.declared.option.Option.{Option}
 use Rattle.std.specs.Option.{option_or}
-use Rattle.std.proofs.lemmas.List.Elements.{All-nil, All-cons, All-head, All-tail, All-weaker, All-push, All-contains_itself, All-contains}
+use Rattle.std.proofs.lemmas.List.Elements.{All-head, All-tail, All-weaker, All-push, All-contains_itself, All-contains}
 use Rattle.std.specs.Prelude.{Contains}
 use Rattle.cs_ddl.specs.declared.tree.OptionTree.{OptionTree}
 use Rattle.cs_types.specs.Names.{is_same, is_among, first_again}
@@ -13,7 +13,6 @@ use Rattle.cs_schema.specs.declared.types.Watched.{Watched}
 use Rattle.cs_schema.specs.declared.types.Watch.{Watch}
 use Rattle.cs_schema.specs.declared.types.Watch.TheVariants.{Nothing, All as all_tables, Tables}
 use Rattle.cs_schema.specs.declared.types.Stream.{Stream}
-use Rattle.cs_schema.specs.declared.fault.SchemaFault.{SchemaFault}
 use Rattle.cs_schema.specs.declared.fault.SchemaFault.TheVariants.{NoTable, NoColumn, KeyListed, StreamThere, TooManyStreams}
 use Rattle.cs_schema.specs.Tables.{table_named, column_names}
 use Rattle.cs_schema.specs.WatchList.{item_of}
@@ -21,8 +20,8 @@ use Rattle.cs_schema.specs.Faults.{no_column}
 use Rattle.cs_schema.specs.Options.{option_fault, retention_fault, built_fault}
 use Rattle.cs_schema.specs.Making.{crowded}
 use Rattle.cs_schema.specs.Watching.{is_listed, lists_column, watches_column, watchers}
-use Rattle.cs_schema.specs.Streaming.{items_of, listed, tables_of, no_table, unknown_in, unknown_listed, is_key, key_in, key_listed, twice_listed, crowded_table, crowded_part, crowded_in, crowded_item, crowded_watch, item_twice, item_twice_if, is_stream, stream_there, many_streams, items_fault, options_fault, stream_fault}
-use Rattle.cs_schema.specs.Sound.{AreDifferent, stream_names, table_names, IsSoundList, IsSoundWatch, IsSoundCatalog}
+use Rattle.cs_schema.specs.Streaming.{items_of, listed, tables_of, no_table, unknown_in, unknown_listed, is_key, key_in, key_listed, twice_listed, crowded_table, crowded_part, crowded_in, crowded_item, crowded_watch, item_twice, item_twice_if, is_stream, stream_there, many_streams, items_fault, stream_fault}
+use Rattle.cs_schema.specs.Sound.{AreDifferent, stream_names, IsSoundList, IsSoundWatch, IsSoundCatalog}
 use Rattle.cs_schema.proofs.Differ.{neither, not_some, not_none, each_none, of_columns, map_more, differ_by, differ_once, one_more_differs, among_each, same_names, some_of, and_so}
 use Rattle.cs_schema.proofs.Named.{each_named}
 use Rattle.cs_schema.proofs.SoundTables.{few_watch}

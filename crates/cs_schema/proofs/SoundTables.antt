@@ -1,24 +1,20 @@
 -- A sound catalog stays sound with a table more, and with a column more in one of its tables.
-use Rattle.std.proofs.Common.{◌≡◌, ◌∙◌, sym, ap, subst, refl, ℕ, ◌+◌, ◌<◌, ◌≤◌, List, [], ◌∷◌, ◌++◌, length, Some, None, cond, false, true, Bool, is_some, true≢false, All, map, nat_le, nat_lt, IsSomeAnd, arith, rules, tests, length-append}
+use Rattle.std.proofs.Common.{◌≡◌, ◌∙◌, sym, ap, subst, refl, ℕ, ◌<◌, ◌≤◌, List, [], ◌∷◌, ◌++◌, length, Some, None, cond, false, true, Bool, is_some, true≢false, All, nat_le, nat_lt, IsSomeAnd, arith, length-append}
 use Rattle.std.specs.Prelude.{Ok, Err, OnOk, MatchResult}
-use Rattle.std.specs.declared.option.Option.{Option}
 use Rattle.std.specs.declared.result.Result.{Result}
-use Rattle.std.specs.Option.{option_or}
 use Rattle.std.proofs.lemmas.List.Elements.{All-nil, All-cons, All-head, All-tail, All-weaker, All-push}
 use Rattle.cs_ddl.specs.declared.tree.TypeTree.{TypeTree}
-use Rattle.cs_ddl.specs.declared.tree.TypeTree.TheVariants.{Bool as bool_tree, Int64 as int64_tree, Numeric as numeric_tree, Date as date_tree, Timestamp as timestamp_tree, Text as text_tree, Bytes as bytes_tree}
 use Rattle.cs_ddl.specs.declared.tree.ColumnTree.{ColumnTree}
 use Rattle.cs_types.specs.Names.{is_same, is_among}
 use Rattle.cs_types.specs.Firsts.{first_of}
 use Rattle.cs_schema.specs.declared.types.Column.{Column}
 use Rattle.cs_schema.specs.declared.types.Table.{Table}
 use Rattle.cs_schema.specs.declared.types.Watched.{Watched}
-use Rattle.cs_schema.specs.declared.types.Watch.{Watch}
 use Rattle.cs_schema.specs.declared.types.Stream.{Stream}
 use Rattle.cs_schema.specs.declared.fault.SchemaFault.{SchemaFault}
 use Rattle.cs_schema.specs.declared.fault.SchemaFault.TheVariants.{TableThere, NoColumn, ColumnTwice, ColumnWatched, TooManyColumns}
 use Rattle.cs_schema.specs.Tables.{table_named, with_column, grown, column_names}
-use Rattle.cs_schema.specs.Lengths.{length_fault, column_made, columns_made}
+use Rattle.cs_schema.specs.Lengths.{column_made, columns_made}
 use Rattle.cs_schema.specs.Faults.{not_memory, no_column, twice_fault}
 use Rattle.cs_schema.specs.Making.{crowded, there_fault, many_fault, tree_fault, table_fault, again_fault, full_fault, added_fault, added_to, column_fault}
 use Rattle.cs_schema.specs.Streaming.{items_of, listed}

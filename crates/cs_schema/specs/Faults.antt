@@ -1,9 +1,8 @@
 -- Refusals that are tried one after another: the first that holds is answered (this project's own order).
-use Rattle.std.specs.Prelude.{ℕ, List, [], ◌∷◌, Some, None, cond}
+use Rattle.std.specs.Prelude.{ℕ, List, [], Some, None, cond}
 use Rattle.std.specs.declared.option.Option.{Option}
 use Rattle.cs_schema.specs.declared.fault.SchemaFault.{SchemaFault}
 use Rattle.cs_schema.specs.declared.fault.SchemaFault.TheVariants.{NoColumn, ColumnTwice, Memory}
-use Rattle.std.specs.Option.{option_or}
 use Rattle.cs_types.specs.Names.{is_among, first_again}
 
 -- all refusals but want of memory

@@ -6,7 +6,7 @@ use Rattle.cs_schema.specs.declared.types.Watched.{Watched}
 use Rattle.cs_schema.specs.declared.types.Watch.{Watch}
 use Rattle.cs_schema.specs.declared.types.Watch.TheVariants.{Nothing, All, Tables}
 use Rattle.cs_schema.specs.declared.types.Stream.{Stream}
-use Rattle.cs_types.specs.Names.{is_same, is_among}
+use Rattle.cs_types.specs.Names.{is_among}
 use Rattle.cs_schema.specs.Tables.{table_named, column_names}
 use Rattle.cs_schema.specs.WatchList.{item_of}
 

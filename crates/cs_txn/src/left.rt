@@ -62,14 +62,14 @@ fn items_for(
     ensures ordered { OnOk result (IsStrictlySortedBy (slice_cmp nat_cmp) columns.now.keys) }
     ensures in_range { IfOk result (All (λ c. IsInRange c.value)) }
 {
-    let mut cells = Items::new(alloc);
+    let mut cells = Vec::with_capacity(alloc, columns.len())?;
     for column in columns {
         cells.push(Cell {
             column: column.copy()?,
             value: value_of(column, set, under)?,
         })?;
     }
-    Ok(cells)
+    Ok(Items::from_vec(cells))
 }
 
 /// A cell for each column: that of `set`, else that of `under`, else NULL.

@@ -1,6 +1,5 @@
-use Rattle.std.proofs.Common.{rules, ◌≡◌, ◌≤◌, ℕ, ◌+◌, length, List, drop, take, ◌++◌, ◌∙◌, sym, ap, arith}
+use Rattle.std.proofs.Common.{ℕ, ◌+◌, ◌++◌, ◌∙◌, sym, ap, arith}
 use Rattle.std.proofs.lemmas.List.{append-nil, length-drop, length-take}
-use Rattle.cs_ddl.specs.Lex as spec
 use Rattle.cs_ddl.proofs.Cutting.{step_blank, pushed, step_token, cut_end}
 use Rattle.cs_ddl.proofs.lex.tokens.Goals as goal
 

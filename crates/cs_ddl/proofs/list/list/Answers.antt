@@ -1,4 +1,3 @@
-use Rattle.std.proofs.Common.{◌≡◌}
 use Rattle.cs_ddl.proofs.Loop.{no_front}
 use Rattle.cs_ddl.proofs.list.list.Goals as goal
 

@@ -1,8 +1,5 @@
-use Rattle.std.proofs.Common.{rules, ◌≡◌, ℕ, List, Result, ◌+◌, ◌-◌, ◌<◌, ◌≤◌, length, Bool, true, false, ◌++◌, arith, sym}
+use Rattle.std.proofs.Common.{arith, sym}
 use Rattle.std.proofs.lemmas.Result.{err_from_is_err_and}
-use Rattle.cs_ddl.specs.Token.{Lexeme}
-use Rattle.cs_ddl.specs.Reading.{Gives}
-use Rattle.cs_ddl.specs.Lists.{list_at}
 use Rattle.cs_ddl.proofs.Loop.{goes_on, is_last, is_last_trailing, fails, runs_out}
 use Rattle.cs_ddl.proofs.list.list_behind.Goals as goal
 

@@ -1,4 +1,4 @@
-use Rattle.std.proofs.Common.{◌≡◌, ℕ, List, Result, ◌-◌, length}
+use Rattle.std.proofs.Common.{◌≡◌, ◌-◌}
 use Rattle.cs_ddl.specs.Lists.{list_at, parts_at, with_front}
 use Rattle.cs_ddl.proofs.list.list_behind.Given as goal
 

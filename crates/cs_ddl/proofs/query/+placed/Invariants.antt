@@ -1,4 +1,3 @@
-use Rattle.std.proofs.Common.{ℕ}
 use Rattle.cs_ddl.proofs.query.+placed.Given as goal
 
 abbrev pub decreases-placed : goal.decreases-placed

@@ -1,4 +1,4 @@
-use Rattle.std.proofs.Common.{◌≡◌, sym, ◌∙◌}
+use Rattle.std.proofs.Common.{sym, ◌∙◌}
 use Rattle.cs_ddl.proofs.QueryWhole.{query_answers, query_is_this}
 use Rattle.cs_ddl.proofs.query.parse_query.Goals as goal
 

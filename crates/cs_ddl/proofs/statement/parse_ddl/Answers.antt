@@ -1,4 +1,4 @@
-use Rattle.std.proofs.Common.{◌≡◌, sym, ◌∙◌}
+use Rattle.std.proofs.Common.{sym, ◌∙◌}
 use Rattle.cs_ddl.proofs.Ends.{statement_answers, statement_is_this}
 use Rattle.cs_ddl.proofs.statement.parse_ddl.Goals as goal
 

@@ -10,5 +10,5 @@ loop-column-preserved c =
     let P : Cell → Type 0 = λ x. IsInRange x.value in
     record {
       cells = grind (arith, common_steps);
-      in_range = All-same P _ _ c.in_ok-push.ensures.ok (All-push P c.loop-column.cells _ c.loop-column.invariant.in_range c.in_ok-value_of.ensures.in_range);
+      in_range = All-same P _ _ c.in_ok-push.ensures.items (All-push P c.loop-column.cells.items _ c.loop-column.invariant.in_range c.in_ok-value_of.ensures.in_range);
     }

@@ -1,4 +1,3 @@
-use Rattle.std.proofs.Common.{◌≡◌, []}
 use Rattle.cs_schema.proofs.SoundTables.{nothing_is_sound}
 use Rattle.cs_schema.proofs.catalog.Catalog.new.Goals as goal
 
