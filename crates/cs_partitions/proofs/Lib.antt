@@ -1,0 +1,15 @@
+pub mod After
+pub mod Births
+pub mod Digits
+pub mod Families
+pub mod First
+pub mod Members
+pub mod Naming
+pub mod Numbering
+pub mod Order
+pub mod Pairs
+pub mod Indexes
+pub mod Living
+pub mod Runs
+pub mod Sound
+pub mod Staying

@@ -1,0 +1,17 @@
+//! Layouts: the parts that the places of a stream are divided into over time.
+#![tactic(auto)]
+
+mod children;
+mod fault;
+mod finding;
+mod followers;
+mod holding;
+mod laws;
+mod layout;
+mod live;
+mod refusals;
+mod tokens;
+
+pub use fault::LayoutFault;
+pub use laws::{holders_stay, indexes_name_parts, names_make_tokens, reshape_keeps_layouts};
+pub use layout::Layout;
