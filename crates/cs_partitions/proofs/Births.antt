@@ -1,5 +1,5 @@
 -- The children of a part stand among the parts that the reshape that ended it made.
-use Rattle.std.proofs.Common.{◌≡◌, ◌⊎◌, ℕ, zero, suc, ◌+◌, ◌-◌, ◌<◌, ◌≤◌, Bool, true, false, cond, List, [], ◌∷◌, ◌++◌, length, map, filter, take, drop, get_or, set, replicate, Some, None, ⊎_elim, sym, refl, ap, ◌∙◌, subst, true≢false, Contains, arith}
+use Rattle.std.proofs.Common.{◌≡◌, ℕ, zero, suc, ◌+◌, ◌-◌, ◌<◌, ◌≤◌, Bool, true, false, cond, List, [], ◌∷◌, ◌++◌, length, map, filter, take, drop, get_or, set, replicate, Some, None, ⊎_elim, sym, refl, ap, ◌∙◌, subst, true≢false, Contains, arith}
 use Rattle.std.specs.List.{slice_get}
 use Rattle.std.proofs.lemmas.Bool.{cases_lt, cases_eq}
 use Rattle.std.proofs.lemmas.List.{take_all, take-append-le, drop-append-le, take-map, drop-map, drop_all, get_or-map, get_or_append_left, length-append, length-drop, append-nil, get_or-append_right, get_or-set_same, get_or-set_other, take_more, length-replicate}
@@ -13,7 +13,8 @@ use Rattle.cs_partitions.specs.Tokens.{token_of, AreOfOneStream}
 use Rattle.cs_partitions.specs.Layout.{StreamParts, IsLayout, first_part}
 use Rattle.cs_partitions.specs.Reshape.{parts_named, joined_range, ranges_between, do_meet, index_named, with_end, new_parts}
 use Rattle.cs_partitions.specs.Fault.{first_fault}
-use Rattle.cs_partitions.specs.Views.{children_of, IsNear, AreBirths}
+use Rattle.cs_partitions.specs.Views.{children_of}
+use Rattle.cs_partitions.specs.Births.{IsNear, AreBirths}
 use Rattle.cs_partitions.proofs.Members.{in_head, in_tail, from_filter, from_map}
 use Rattle.cs_partitions.proofs.Naming.{same_is, same_itself, among_is, is_there, named_are, none_ended, token_named}
 use Rattle.cs_partitions.proofs.Runs.{IsFollower, followers_are}

@@ -10,6 +10,7 @@ pub mod Order
 pub mod Pairs
 pub mod Indexes
 pub mod Living
+pub mod One
 pub mod Runs
 pub mod Sound
 pub mod Staying

@@ -1,5 +1,5 @@
 -- The parts of a sound layout that are live at one moment have different lows, so that sorted by low they rise.
-use Rattle.std.proofs.Common.{◌≡◌, ◌≢◌, ◌⊎◌, ℕ, suc, ◌≤◌, Bool, true, false, cond, List, [], ◌∷◌, filter, length, get_or, ⊎_elim, sym, refl, ap, ◌∙◌, subst, true≢false, Contains, arith}
+use Rattle.std.proofs.Common.{◌≡◌, ◌≢◌, ℕ, suc, ◌≤◌, Bool, true, false, cond, List, [], ◌∷◌, filter, length, get_or, ⊎_elim, sym, refl, ap, ◌∙◌, subst, true≢false, Contains, arith}
 use Rattle.std.specs.Ordering.{nat_cmp, is_lt}
 use Rattle.std.specs.Cmp.{eq_by_cmp_equiv}
 use Rattle.std.specs.Cmp.Lexicographic.{slice_cmp, nat_list_cmp_total}

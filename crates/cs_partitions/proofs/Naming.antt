@@ -1,5 +1,5 @@
 -- The parts that tokens name.
-use Rattle.std.proofs.Common.{◌≡◌, ◌≢◌, ◌⊎◌, ℕ, Bool, true, false, cond, not, List, [], ◌∷◌, Option, Some, None, is_some, inl, inr, ⊎_elim, sym, refl, ap, ◌∙◌, subst, true≢false, Contains, arith, nat_lt, ◌<◌}
+use Rattle.std.proofs.Common.{◌≡◌, ◌⊎◌, ℕ, Bool, true, false, cond, not, List, [], ◌∷◌, Option, Some, None, is_some, inl, inr, ⊎_elim, sym, refl, ap, ◌∙◌, subst, true≢false, Contains, arith, nat_lt, ◌<◌}
 use Rattle.std.specs.Cmp.Lexicographic.{nat_list_cmp_total}
 use Rattle.std.proofs.lemmas.Cmp.{tied_itself}
 use Rattle.std.proofs.lemmas.Map.Lookups.{exact_bytes}

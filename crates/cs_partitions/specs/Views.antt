@@ -1,5 +1,5 @@
 -- What is asked of a layout: who has a place at a moment, which parts follow one, which are live (the partitions that Spanner's documentation has a query return; the forms are this project's own).
-use Rattle.std.specs.Prelude.{◌≡◌, ℕ, ◌-◌, ◌<◌, ◌≤◌, List, length, filter, take, drop, slice_index_or, AllPairs, Contains}
+use Rattle.std.specs.Prelude.{ℕ, ◌<◌, ◌≤◌, List, length, filter, slice_index_or, AllPairs, Contains}
 use Rattle.cs_types.specs.Names.{is_among}
 use Rattle.cs_place.specs.declared.place.Place.{Place}
 use Rattle.cs_place.specs.declared.part.Part.{Part}
@@ -21,14 +21,3 @@ pub record AreLiveByLow (parts : List Part) (moment : ℕ) (live : List Part) : 
 -- the parts that name a token as a parent's, in their order
 abbrev pub children_of : List ℕ → List Part → List Part
 children_of token parts = filter (λ p. is_among token p.parents) parts
-
--- the children of the part of a token are among those from one index to below another
-pub record IsNear (parts : List Part) (span : ℕ × ℕ) (token : List ℕ) : Type 0 where
-  pub rising : span.0 ≤ span.1
-  pub inside : span.1 ≤ length parts
-  pub all : children_of token parts ≡ children_of token (take (span.1 - span.0) (drop span.0 parts))
-
--- for each part, where its children are
-pub record AreBirths (parts : List Part) (births : List (ℕ × ℕ)) : Type 0 where
-  pub count : length births ≡ length parts
-  pub near : (i : ℕ) (d : Part) → i < length parts → IsNear parts (slice_index_or births i (0, 0)) (slice_index_or parts i d).token

@@ -2,7 +2,8 @@ ghost use Rattle.std.specs.Prelude.{◌≡◌, ◌-◌, ◌<◌, ◌≤◌, ℕ,
 ghost use Rattle.cs_place.specs.declared.part.Part.{Part as part};
 ghost use Rattle.cs_types.specs.Names.{is_among};
 ghost use Rattle.cs_partitions.specs.Tokens.{AreOfOneStream};
-ghost use Rattle.cs_partitions.specs.Views.{children_of, AreBirths};
+ghost use Rattle.cs_partitions.specs.Views.{children_of};
+ghost use Rattle.cs_partitions.specs.Births.{AreBirths};
 
 use crate::finding::index_named;
 use crate::tokens::is_same;

@@ -1,5 +1,6 @@
 use cs_types::{Duplicate, Memory, Token};
 use std::alloc::{AllocError, AllocFailed};
+use std::fmt;
 
 /// Why a reshape is refused. Where several hold, the first of them in this order is answered, and
 /// of its kind that of the first token, but for `Memory`, which may come before any other.
@@ -39,6 +40,34 @@ impl Duplicate for LayoutFault {
             LayoutFault::Memory => LayoutFault::Memory,
         })
     }
+}
+
+impl fmt::Display for LayoutFault {
+    fn fmt<W: fmt::Write>(&self, f: &mut fmt::Formatter<W>) -> fmt::Result {
+        match self {
+            LayoutFault::NoPart(token) => of_token(f, "there is no part ", token),
+            LayoutFault::NotLive(token) => of_token(f, "this part has ended: ", token),
+            LayoutFault::NotNeighbours => write!(f, "the parts are no neighbours in order"),
+            LayoutFault::BorderOutside => write!(f, "a border is not inside of the parts' range"),
+            LayoutFault::BordersNotRising => write!(f, "the borders do not rise"),
+            LayoutFault::StampNotAfter => write!(f, "the moment is not above the parts' first"),
+            LayoutFault::TooManyParts(most) => write!(
+                f,
+                "the stream would have more than {most} parts"
+            ),
+            LayoutFault::TooWide(most) => write!(f, "more than {most} parts are named or made"),
+            LayoutFault::Memory => write!(f, "want of memory"),
+        }
+    }
+}
+
+/// The bytes of a token are ASCII.
+fn of_token<W: fmt::Write>(f: &mut fmt::Formatter<W>, words: &str, token: &Token) -> fmt::Result {
+    f.write_str(words)?;
+    for byte in token.bytes() {
+        f.write_char(char::from(*byte))?;
+    }
+    Ok(())
 }
 
 impl From<Memory> for LayoutFault {

@@ -37,7 +37,7 @@ pub struct Layout {
 
 impl Model for Layout {
     ghost use Rattle.cs_partitions.specs.Layout.{StreamParts, IsLayout};
-    ghost use Rattle.cs_partitions.specs.Views.{AreBirths};
+    ghost use Rattle.cs_partitions.specs.Births.{AreBirths};
 
     ghost Value = { StreamParts };
 

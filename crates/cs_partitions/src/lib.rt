@@ -13,5 +13,8 @@ mod refusals;
 mod tokens;
 
 pub use fault::LayoutFault;
-pub use laws::{holders_stay, indexes_name_parts, names_make_tokens, reshape_keeps_layouts};
+pub use laws::{
+    holders_are_one, holders_stay, indexes_name_parts, live_lists_are_one, names_make_tokens,
+    new_layouts_are_layouts, reshape_keeps_layouts,
+};
 pub use layout::Layout;

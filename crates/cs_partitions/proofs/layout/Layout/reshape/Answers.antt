@@ -3,7 +3,7 @@ use Rattle.std.proofs.lemmas.Grind.{common_steps}
 use Rattle.cs_partitions.specs.Layout.{StreamParts}
 use Rattle.cs_partitions.specs.Reshape.{with_end, new_parts}
 use Rattle.cs_partitions.specs.Fault.{first_fault}
-use Rattle.cs_partitions.specs.Views.{AreBirths}
+use Rattle.cs_partitions.specs.Births.{AreBirths}
 use Rattle.cs_partitions.proofs.After.{parts_after}
 use Rattle.cs_partitions.proofs.Births.{births_made, same_marks}
 use Rattle.cs_partitions.proofs.layout.Layout.reshape.Goals as goal
