@@ -7,14 +7,15 @@ ghost use Rattle.cs_partitions.specs.Fault.{first_fault, not_memory};
 ghost use Rattle.cs_partitions.specs.Views.{IsHolder, AreLiveByLow, children_of};
 ghost use Rattle.cs_place.specs.declared.part.Part.{Part as part};
 
-use crate::LayoutFault;
 use crate::children::{children_at, set_births};
+use crate::finder::holder_by;
 use crate::finding::{end_all, index_named, parts_named};
 use crate::followers::{Birth, followers};
 use crate::holding::{holder, put_starts};
 use crate::live::live_by_low;
 use crate::refusals::{check_numbers, check_shape, joined_range};
 use crate::tokens::token;
+use crate::{Finder, LayoutFault};
 use cs_place::{Part, Place, Range};
 use cs_types::{Duplicate, Items, Memory, Stamp, Text, Token};
 use std::alloc::Global;
@@ -99,6 +100,21 @@ impl Layout {
         ensures { IsHolder self.now.parts place.now moment result }
     {
         holder(self.parts.as_slice(), &self.starts, place, moment)
+    }
+
+    /// What `holder` gives, found by a finder: where moments do not fall from one look-up of it to
+    /// the next, and parts were made in the order of their beginnings, all look-ups together cost a
+    /// logarithm each and a logarithm for each part, however often a place has gone on since.
+    pub fn holder_by(
+        &self,
+        finder: &mut Finder,
+        place: &Place,
+        moment: Stamp,
+    ) -> Result<usize, Memory>
+        requires { self.now.created ≤ moment }
+        ensures { IfOk result (λ index. IsHolder self.now.parts place.now moment index) }
+    {
+        holder_by(finder, self.parts.as_slice(), &self.starts, place, moment)
     }
 
     /// Copies of the parts that are live at a moment, in order of low. It costs a look at each part,
