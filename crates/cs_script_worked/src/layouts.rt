@@ -1,6 +1,6 @@
 ghost use Rattle.std.specs.Prelude.{◌≡◌, ◌∷◌, [], IfOk};
 
-use cs_partitions::{Layout, LayoutFault};
+use cs_partitions::{Finder, Layout, LayoutFault};
 use cs_place::{Part, Place};
 use cs_types::{Items, Memory, Stamp, Text, Token};
 use std::alloc::Global;
@@ -232,6 +232,33 @@ fn a_border_is_of_the_part_above_it(rt: HostRuntime) -> Result<(), Fail> {
     for (key, us, want) in [(100, 4, 0), (99, 5, 1), (100, 5, 2)] {
         let found = done(holder(rt.alloc(), &layout, key, us))?;
         assert_eq!(rt; found, want);
+    }
+    Ok(())
+}
+
+/// The index of the part that a finder finds.
+fn found(
+    alloc: Global,
+    layout: &Layout,
+    finder: &mut Finder,
+    key: u8,
+    us: u64,
+) -> Result<usize, LayoutFault> {
+    let at = moment(us)?;
+    if at < layout.created() {
+        return Err(LayoutFault::StampNotAfter);
+    }
+    let place = place(alloc, &[key])?;
+    Ok(layout.holder_by(finder, &place, at)?)
+}
+
+#[test]
+fn a_finder_goes_on_from_moment_to_moment(rt: HostRuntime) -> Result<(), Fail> {
+    let layout = done(reshaped(rt.alloc(), "12", ""))?;
+    let mut finder = Finder::new(rt.alloc());
+    for (key, us, want) in [(100, 4, 0), (99, 5, 1), (100, 5, 2), (99, 6, 3), (99, 5, 1)] {
+        let index = done(found(rt.alloc(), &layout, &mut finder, key, us))?;
+        assert_eq!(rt; index, want);
     }
     Ok(())
 }
