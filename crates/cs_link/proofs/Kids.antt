@@ -1,11 +1,12 @@
 -- The children that an honest READ of a part lists, and where it ends.
-use Rattle.std.proofs.Common.{◌≡◌, ◌≢◌, ◌⊎◌, ℕ, suc, ◌-◌, ◌<◌, ◌≤◌, min, Bool, true, false, cond, List, [], ◌∷◌, ◌++◌, map, Option, Some, None, is_some, ⊎_elim, refl, ap, ◌∙◌, sym, subst, arith, is_eq, Contains, append-nil}
+use Rattle.std.proofs.Common.{◌≡◌, ◌≢◌, ◌⊎◌, ℕ, suc, ◌-◌, ◌<◌, ◌≤◌, min, Bool, true, false, cond, List, [], ◌∷◌, ◌++◌, map, length, Option, Some, None, is_some, ⊎_elim, refl, ap, ◌∙◌, sym, subst, arith, is_eq, Contains, append-nil}
 use Rattle.std.specs.declared.cmp.Ordering.{Ordering}
 use Rattle.std.specs.declared.cmp.Ordering.TheVariants.{Less, Equal, Greater}
 use Rattle.std.specs.Cmp.{eq_by_cmp_equiv}
 use Rattle.std.specs.Cmp.Lexicographic.{slice_cmp, nat_list_cmp_total}
 use Rattle.std.specs.Ordering.{nat_cmp, is_lt}
-use Rattle.std.proofs.lemmas.Bool.{cases_lt}
+use Rattle.std.proofs.lemmas.Bool.{cases_lt, le-ltb}
+use Rattle.std.proofs.lemmas.List.{length-map}
 use Rattle.std.proofs.lemmas.List.Elements.{Contains-append_cases}
 use Rattle.std.proofs.lemmas.Map.Lookups.{exact_bytes}
 use Rattle.cs_place.specs.declared.place.Place.{Place}
@@ -15,16 +16,18 @@ use Rattle.cs_records.specs.declared.records.Child.{Child}
 use Rattle.cs_records.specs.declared.records.ChildRecord.{ChildRecord}
 use Rattle.cs_records.specs.declared.records.Record.{Record}
 use Rattle.cs_link.specs.declared.batch.NewChild.{NewChild}
+use Rattle.cs_link.specs.declared.breach.Breach.{Breach}
 use Rattle.cs_link.specs.declared.feed.Feed.{Feed}
 use Rattle.cs_link.specs.declared.reading.Step.{Step}
 use Rattle.cs_link.specs.Batch.{limit, IsNewChild}
+use Rattle.cs_link.specs.Breach.{too_many, with_children}
 use Rattle.cs_link.specs.Feed.{IsFeed}
 use Rattle.cs_link.specs.Fetch.{finish}
 use Rattle.cs_link.specs.Honest.{Follows, IsChildOf, MayList, MayFinish, MayFollow, EndsWithin, HasAllChildren}
 use Rattle.cs_link.specs.Keeping.{parents_of, keep_children}
 use Rattle.cs_link.specs.Reading.{children_in, new_child, children}
 use Rattle.cs_link.proofs.Reached.{children_more}
-use Rattle.cs_link.proofs.Lists.{Pairwise, in_nil, in_head, in_tail, in_cons, from_flat, from_map, pairs_of, pairs_two, pairs_append, snoc_append, place}
+use Rattle.cs_link.proofs.Lists.{Pairwise, in_nil, in_head, in_tail, in_cons, from_flat, from_map, in_map, no_longer, pairs_of, pairs_two, pairs_append, snoc_append, place}
 
 -- what an accepted READ of a part asks for
 pub record IsAccepted (f : Feed) (q : Part) (r e m : ℕ) : Type 0 where
@@ -53,7 +56,7 @@ not_listed (x ∷ xs) token h = by (is_eq (slice_cmp nat_cmp x.token token)) ref
     by true g k = absurd (h x (in_head x xs) (token_same x.token token (slice_cmp nat_cmp x.token token) refl g))
     by false g k = k
 
-keep_each : (kept xs : List NewChild) → ((a b : NewChild) → Contains kept a → Contains xs b → a.token ≢ b.token) → Apart xs → keep_children kept xs ≡ kept ++ xs
+pub keep_each : (kept xs : List NewChild) → ((a b : NewChild) → Contains kept a → Contains xs b → a.token ≢ b.token) → Apart xs → keep_children kept xs ≡ kept ++ xs
 keep_each kept [] h p = sym (append-nil kept)
 keep_each kept (b ∷ xs) h p =
     ap (λ z. keep_children (cond (is_some z) kept (kept ++ b ∷ [])) xs) (not_listed kept b.token (λ a i. h a b i (in_head b xs)))
@@ -70,6 +73,39 @@ keep_each kept (b ∷ xs) h p =
 
 pub all_kept : (xs : List NewChild) → Apart xs → keep_children [] xs ≡ xs
 all_kept xs p = keep_each [] xs (λ a b i j. absurd (in_nil a i)) p
+
+tokens_apart : (xs : List NewChild) → Apart xs → Pairwise (λ a b. a ≢ b) (map (λ (x : NewChild). x.token) xs)
+tokens_apart [] p = tt
+tokens_apart (x ∷ xs) p = (λ t i. let u = from_map (λ (y : NewChild). y.token) t xs i in λ g. p.0 u.0 u.1 (g ∙ u.2), tokens_apart xs p.1)
+
+-- a part has the child's token
+abbrev pub HasPart : List Part → NewChild → Type 0
+HasPart parts b = (c : Part) × Contains parts c × (c.token ≡ b.token)
+
+-- children that are apart, each with a part of its token, are no more than the parts
+pub few_kids : (parts : List Part) → length parts ≤ 65536 → (old new : List NewChild) → Apart old → Apart new → ((a b : NewChild) → Contains old a → Contains new b → a.token ≢ b.token) → ((b : NewChild) → Contains old b → HasPart parts b) → ((b : NewChild) → Contains new b → HasPart parts b) → too_many (keep_children old new) ≡ None
+few_kids parts few old new p q apart o n =
+    ap too_many (keep_each old new apart q)
+    ∙ ap (λ b. cond b (Some (Breach.TooManyChildren (length (old ++ new)) 65536)) None) (le-ltb 65536 (length (old ++ new)) short)
+  where
+    token : NewChild → List ℕ
+    token x = x.token
+
+    mine : Part → List ℕ
+    mine x = x.token
+
+    inside : (t : List ℕ) → Contains (map token (old ++ new)) t → Contains (map mine parts) t
+    inside t i =
+        let u = from_map token t (old ++ new) i in
+        let h = ⊎_elim (λ (j : Contains old u.0). o u.0 j) (λ (j : Contains new u.0). n u.0 j) (Contains-append_cases old new u.0 u.1) in
+        subst (λ z. Contains (map mine parts) z) (h.2 ∙ sym u.2) (in_map mine h.0 parts h.1)
+
+    short : length (old ++ new) ≤ 65536
+    short =
+        let l = no_longer (map token (old ++ new)) (map mine parts) (tokens_apart (old ++ new) (pairs_append (λ (a b : NewChild). a.token ≢ b.token) old new p q apart)) inside in
+        let m = length-map (old ++ new) token in
+        let k = length-map parts mine in
+        omega (arith, l, m, k, few)
 
 pub apart_listed : (t : ℕ) (cs : List Child) → Pairwise (λ x y. x.token ≢ y.token) cs → Apart (map (new_child t) cs)
 apart_listed t [] p = tt
@@ -222,6 +258,13 @@ module _ (f : Feed) (F : IsFeed f) where
 
           from : c.part.0.from ≡ k.item.start
           from = child_from c.part.0 k.item.start c.part.1 (subst (λ l. Contains l q.token) (sym c.part.3) c.parent) k.may.ends.0
+
+      pub few_listed : (item : ChildRecord) → MayList f q r e m done item → too_many (with_children (children done) item) ≡ None
+      few_listed item D =
+          few_kids f.parts F.few_parts (children done) (map (new_child item.start) item.children) are_apart (apart_listed item.start item.children (pairs_of (λ (x y : Child). x.token ≢ y.token) item.children D.once))
+          (λ a b i j. let u = from_map (new_child item.start) b item.children j in λ g. D.new u.0 a u.1 i (g ∙ ap (λ (z : NewChild). z.token) u.2))
+          (λ b i. let c = is_child b i in (c.child, c.there, sym (ap (λ (z : NewChild). z.token) c.same)))
+          (λ b j. let u = from_map (new_child item.start) b item.children j in let c = D.child u.0 u.1 in (c.part.0, c.part.1, c.part.2 ∙ sym (ap (λ (z : NewChild). z.token) u.2)))
 
       start_of : (b : NewChild) (u : ℕ) → q.until ≡ Some u → Contains (children done) b → b.start ≡ u
       start_of b u g i =

@@ -26,7 +26,7 @@ use Rattle.cs_link.specs.declared.reading.ReadArgs.{ReadArgs}
 use Rattle.cs_link.specs.declared.reading.Step.{Step}
 use Rattle.cs_link.specs.declared.so_far.Marks.{Marks}
 use Rattle.cs_link.specs.declared.so_far.SoFar.{SoFar}
-use Rattle.cs_link.specs.Breach.{only_if, offended, outside_of, fell, outside, below_beat, after_children, initial, crowded, unsound, stamp_breach, data_breach, beat_offends, beat_breach, part_start_offends, start_offends, differ, first_differing, first_without, children_breach, list_breach, moment_offends}
+use Rattle.cs_link.specs.Breach.{only_if, offended, outside_of, fell, outside, below_beat, after_children, initial, crowded, unsound, stamp_breach, data_breach, beat_offends, beat_breach, part_start_offends, start_offends, differ, first_differing, first_without, children_breach, too_many, with_children, list_breach, moment_offends}
 use Rattle.cs_link.specs.Causes.{one_more}
 use Rattle.cs_link.specs.Feed.{place_of, is_of_at, IsOf, IsFeed}
 use Rattle.cs_link.specs.Honest.{HaveNo, Follows, HasAllBelow, MayTell, MayBeat, MayList, MayCatchUp, MayFollow}
@@ -36,7 +36,7 @@ use Rattle.cs_link.specs.SoFar.{count_at}
 use Rattle.cs_link.proofs.Lists.{Pairwise, in_nil, in_head, in_tail, in_cons, in_flat, from_flat, in_filter, from_filter, pairs_filter, pairs_weaker, pairs_of, no_longer, some_any, place}
 use Rattle.cs_link.proofs.Marking.{is_at, count_of, Tell}
 use Rattle.cs_link.proofs.Faithful.{Facts, its_stamp}
-use Rattle.cs_link.proofs.Kids.{IsAccepted, not_listed}
+use Rattle.cs_link.proofs.Kids.{IsAccepted, not_listed, few_listed}
 
 -- ---- nothing among options
 
@@ -216,9 +216,11 @@ module _ (f : Feed) (F : IsFeed f) (q : Part) (r e m : ℕ) (A : IsAccepted f q 
     pub right_list : (s : SoFar) → s.marks ≡ marks → s.children ≡ children done → ((c : Change) → Contains (changes done) c → IsBefore c.stamp q.until) → (item : ChildRecord) → MayList f q r e m done item → list_breach args s item ≡ None
     right_list s sm sc lives item D =
         or_none _ _ (map_none (Breach.ChildStart item.start) (start_offends args s.marks args.token item.start) (ap (λ z. start_offends args s.marks z item.start) token ∙ ap (λ z. part_start_offends args z item.start) sm ∙ starts))
+        (or_none (children_breach args.token (first_differing s.children item.start item.children) item.children) (too_many (with_children s.children item))
         (ap (λ z. children_breach z (first_differing s.children item.start item.children) item.children) token
         ∙ or_none _ _ (map_none (λ token. Breach.ChildDiffers token token) (first_differing s.children item.start item.children) (ap (λ z. first_differing z item.start item.children) sc ∙ no_difference item.start (children done) item.children D.new (pairs_of (λ (x y : Child). x.token ≢ y.token) item.children D.once)))
         (map_none (λ token. Breach.ParentMissing token q.token) (first_without q.token item.children) (all_named q.token item.children (λ x i. (D.child x i).parent))))
+        (ap (λ z. too_many (with_children z item)) sc ∙ few_listed f F q r e m A done H item D))
       where
         until : (t : ℕ) → IsBefore t q.until → t < item.start
         until t h = subst (λ o. IsBefore t o) D.ends.0 h
