@@ -1,0 +1,12 @@
+mod Causes
+mod CellsMore
+mod Lists
+mod Counting
+mod Keeping
+mod Trees
+mod Doing
+mod Naming
+mod Pieces
+mod Places
+mod SourceSteps
+mod Advancing

@@ -1,0 +1,12 @@
+pub mod Readings
+pub mod Members
+pub mod Gathering
+pub mod Cells
+pub mod Writes
+pub mod Borders
+pub mod Database
+pub mod Line
+pub mod Takes
+pub mod Kept
+pub mod Script
+pub mod Progress

@@ -1,0 +1,21 @@
+//! The scripted database: what the lines of a script make, and why a line is refused.
+#![tactic(auto)]
+
+mod action;
+mod borders;
+mod cells;
+mod combine;
+mod commit;
+mod fault;
+mod line;
+mod loading;
+mod members;
+mod reader;
+mod reshape;
+mod state;
+mod statement;
+mod writes;
+
+pub use fault::{LineCause, ScriptFault};
+pub use loading::load;
+pub use state::ServerState;
