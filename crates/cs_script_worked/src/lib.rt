@@ -1,4 +1,4 @@
-//! Worked answers of statements, queries, catalogs, layouts, histories and capture, tried on their public calls with ample memory. It has tests alone.
+//! Worked answers of statements, queries, catalogs, layouts, scripts, histories and capture, tried on their public calls with ample memory. It has tests alone.
 #![tactic(auto)]
 
 #[cfg(test)]
@@ -7,5 +7,7 @@ mod catalogs;
 mod layouts;
 #[cfg(test)]
 mod queries;
+#[cfg(test)]
+mod scripts;
 #[cfg(test)]
 mod statements;
