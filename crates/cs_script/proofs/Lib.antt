@@ -11,3 +11,4 @@ mod Places
 mod SourceSteps
 mod Advancing
 mod Alone
+mod Columns

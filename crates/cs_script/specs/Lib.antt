@@ -1,5 +1,6 @@
 pub mod Readings
 pub mod Members
+pub mod Finders
 pub mod Gathering
 pub mod Cells
 pub mod Writes

@@ -2,40 +2,35 @@ ghost use Rattle.std.specs.Prelude.{◌≡◌, All, IfOk, Ok, Err, MatchResult, 
 ghost use Rattle.serde_json.specs.Find.{get, get_member};
 ghost use Rattle.serde_json.specs.View.{view, members_view};
 ghost use Rattle.cs_types.specs.Cells.{IsRising, AreCells};
-ghost use Rattle.cs_types.specs.Names.{is_among};
 ghost use Rattle.cs_types.specs.Value.{IsInRange};
-ghost use Rattle.cs_txn.specs.Columns.{column_named};
+ghost use Rattle.cs_script.specs.Finders.{IsFinder};
 ghost use Rattle.cs_script.specs.Readings.{Gives, not_memory};
 ghost use Rattle.cs_script.specs.Cells.{cell_reading, key_cell_reading, each_cell, each_key_cell, has_each, key_reading, key_of_members, key_member, set_of_members, set_member};
 
 use crate::LineCause;
 use crate::combine::{Gathered, both};
+use crate::finder::{Finder, column_of, finder_of, is_key};
 use crate::members::bad;
-use cs_schema::{Column, Table};
-use cs_types::{Cell, Cells, Duplicate, Text, Value, ValueFault, is_among};
+use cs_schema::Table;
+use cs_types::{Cell, Cells, Duplicate, Text, Value, ValueFault};
 use serde_json::{Map, Value as Tree};
 use std::alloc::Global;
 
-/// The column of a name.
-fn column_of<'a>(name: &Text, columns: &'a [Column]) -> Option<&'a Column>
-    ensures { option_copied result ≡ column_named name.now columns.now }
-{
-    for column in columns {
-        if column.name.is(name) {
-            return Some(column);
-        }
-    }
-    None
-}
-
 /// The cell of a column of the table.
-fn cell_of(alloc: Global, table: &Table, name: &str, tree: &Tree) -> Result<Cell, LineCause>
+fn cell_of(
+    alloc: Global,
+    table: &Table,
+    finder: &Finder,
+    name: &str,
+    tree: &Tree,
+) -> Result<Cell, LineCause>
+    requires { IsFinder table.now finder.now }
     ensures reading { Gives result (cell_reading table.now name.now (view tree.now)) }
     ensures column { IfOk result (λ c. c.column ≡ name.now) }
     ensures in_range { IfOk result (λ c. IsInRange c.value) }
 {
     let name = Text::of(alloc, name)?;
-    let Some(column) = column_of(&name, table.columns.as_slice()) else {
+    let Some(column) = column_of(table, finder, &name) else {
         return Err(LineCause::NoColumn(name));
     };
     match Value::from_tree(alloc, tree, column.ty) {
@@ -49,25 +44,33 @@ fn cell_of(alloc: Global, table: &Table, name: &str, tree: &Tree) -> Result<Cell
 }
 
 /// The cell of a column of the table's key.
-fn key_cell_of(alloc: Global, table: &Table, name: &str, tree: &Tree) -> Result<Cell, LineCause>
+fn key_cell_of(
+    alloc: Global,
+    table: &Table,
+    finder: &Finder,
+    name: &str,
+    tree: &Tree,
+) -> Result<Cell, LineCause>
+    requires { IsFinder table.now finder.now }
     ensures reading { Gives result (key_cell_reading table.now name.now (view tree.now)) }
     ensures column { IfOk result (λ c. c.column ≡ name.now) }
     ensures in_range { IfOk result (λ c. IsInRange c.value) }
 {
     let column = Text::of(alloc, name)?;
-    if !is_among(&column, table.key.as_slice()) {
+    if !is_key(table, finder, &column) {
         return Err(LineCause::NoColumn(column));
     }
-    cell_of(alloc, table, name, tree)
+    cell_of(alloc, table, finder, name, tree)
 }
 
 /// The members of an object, which stand in rising order, as cells of the table.
 fn each_cell(alloc: Global, table: &Table, members: &Map<String, Tree>) -> Result<Cells, LineCause>
     ensures { Gives result (each_cell table.now (members_view members.now.entries)) }
 {
+    let finder = finder_of(alloc, table, members.len())?;
     let mut cells = Gathered::new(alloc);
     for (name, tree) in members.iter() {
-        cells = cells.with(cell_of(alloc, table, name.as_str(), tree))?;
+        cells = cells.with(cell_of(alloc, table, &finder, name.as_str(), tree))?;
     }
     let items = cells.finish()?;
     Ok(Cells::in_order(items))
@@ -81,9 +84,10 @@ fn each_key_cell(
 ) -> Result<Cells, LineCause>
     ensures { Gives result (each_key_cell table.now (members_view members.now.entries)) }
 {
+    let finder = finder_of(alloc, table, members.len())?;
     let mut cells = Gathered::new(alloc);
     for (name, tree) in members.iter() {
-        cells = cells.with(key_cell_of(alloc, table, name.as_str(), tree))?;
+        cells = cells.with(key_cell_of(alloc, table, &finder, name.as_str(), tree))?;
     }
     let items = cells.finish()?;
     Ok(Cells::in_order(items))

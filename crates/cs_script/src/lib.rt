@@ -7,6 +7,7 @@ mod cells;
 mod combine;
 mod commit;
 mod fault;
+mod finder;
 mod laws;
 mod line;
 mod loading;
