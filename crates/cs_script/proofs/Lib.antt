@@ -10,3 +10,4 @@ mod Pieces
 mod Places
 mod SourceSteps
 mod Advancing
+mod Alone

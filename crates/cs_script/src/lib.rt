@@ -7,6 +7,7 @@ mod cells;
 mod combine;
 mod commit;
 mod fault;
+mod laws;
 mod line;
 mod loading;
 mod members;
@@ -17,5 +18,6 @@ mod statement;
 mod writes;
 
 pub use fault::{LineCause, ScriptFault};
+pub use laws::{a_line_does_one_thing, a_script_makes_one_thing};
 pub use loading::load;
 pub use state::ServerState;
