@@ -137,3 +137,59 @@ fn listed_calls_of_a_disk_fail(rt: HostRuntime) -> Result<(), Fail> {
     assert_eq!(rt; told.as_str(), "! ! ! ! . ! ab");
     Ok(())
 }
+
+/// Writes, a sync, and calls from the stop at call 3 on.
+fn stopped_calls() -> [Call; 6] {
+    [
+        Call::Write(2, "cd"),
+        Call::Sync,
+        Call::Write(4, "ef"),
+        Call::Write(0, "x"),
+        Call::Len,
+        Call::Sync,
+    ]
+}
+
+#[test]
+fn from_its_stop_on_each_call_of_a_disk_fails(rt: HostRuntime) -> Result<(), Fail> {
+    let disk = disk_of(rt.alloc(), "ab", 9, 9, &[])?.fused(3, 0);
+    let told = told(rt.alloc(), disk, &stopped_calls())?;
+    assert_eq!(rt; told.as_str(), ". . . ! ! ! abcdef");
+    Ok(())
+}
+
+/// What a crash leaves of `abcd` where a cut to 2 and a write of `xyz` behind it were not synced.
+fn left(alloc: Global, image: u64) -> Result<MemDisk, Memory> {
+    let mut disk = disk_of(alloc, "abcd", 9, 9, &[])?.fused(2, image);
+    cut(alloc, &mut disk, 2)?;
+    write(alloc, &mut disk, 2, "xyz")?;
+    let _ = disk.sync();
+    disk.after_crash()
+}
+
+fn images(alloc: Global) -> Result<String, Memory> {
+    let mut told = String::new(alloc);
+    for image in [
+        0,
+        1 << 8,
+        2 << 8,
+        1 << 10,
+        2 << 10,
+        5 << 8,
+        9 << 8,
+        35 + (13 << 8),
+    ] {
+        for byte in left(alloc, image)?.bytes() {
+            told.push(char::from(*byte))?;
+        }
+        told.push(' ')?;
+    }
+    Ok(told)
+}
+
+#[test]
+fn a_crash_leaves_the_image_that_is_picked(rt: HostRuntime) -> Result<(), Fail> {
+    let told = images(rt.alloc())?;
+    assert_eq!(rt; told.as_str(), "abcd ab abc abxyz abxd abxyz abx ab### ");
+    Ok(())
+}

@@ -6,6 +6,8 @@ mod devices;
 #[cfg(test)]
 mod disks;
 #[cfg(test)]
+mod journals;
+#[cfg(test)]
 mod making;
 #[cfg(test)]
 mod parts;

@@ -1,0 +1,11 @@
+pub mod Breach
+pub mod Fetch
+pub mod Honesty
+pub mod Keeping
+pub mod Laws
+pub mod Made
+pub mod Sets
+pub mod SoFar
+pub mod Taking
+pub mod Turn
+pub mod Went

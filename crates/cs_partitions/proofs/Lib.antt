@@ -1,0 +1,16 @@
+pub mod After
+pub mod Births
+pub mod Digits
+pub mod Families
+pub mod First
+pub mod Members
+pub mod Naming
+pub mod Numbering
+pub mod Order
+pub mod Pairs
+pub mod Indexes
+pub mod Living
+pub mod One
+pub mod Runs
+pub mod Sound
+pub mod Staying
