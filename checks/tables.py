@@ -1,6 +1,6 @@
-"""What the program must say of words and scripts: each row has an input and the answer that the formats give it."""
+"""What the program must say of words, and of some scripts that it takes: each row has an input and the answer that the formats give it."""
 
-STATUSES = (0, 41, 42, 43, 50, 51, 55, 60, 70)
+STATUSES = (0, 11, 20, 21, 41, 42, 43, 50, 51, 55, 56, 60, 70)
 
 TABLE = b'{"at":"2024-05-01T00:00:00Z","ddl":"CREATE TABLE T (K INT64 NOT NULL, A INT64, B STRING(MAX)) PRIMARY KEY (K)"}\n'
 STREAM = b'{"at":"2024-05-01T00:00:00Z","ddl":"CREATE CHANGE STREAM S FOR T"}\n'
@@ -34,107 +34,49 @@ NO_STAMPS = (
     "2024-02-30T00:00:00Z", "2024-05-01T00:00:01.Z", "2024-05-01T00:00:01.0000001Z", "0000-01-01T00:00:00Z", "10000-01-01T00:00:00Z",
 )
 
-# stamps before 2024-05-01T00:00:00Z
-EARLY = ("2024-04-30T23:59:59Z", "2024-04-30T23:59:59.999999Z", "1970-01-01T00:00:01Z")
+# no names of a stream
+NO_NAMES = ("", "1S", "_S", "S-00000", "S T", "\u00e9", "S" * 129)
 
 BAD_WORDS = [
     ((), 0),
     (("x",), 0),
     (("REPLAY",), 0),
-    (("gen", "11"), 0),
-    (("check", "SCRIPT", "output", "S", START, END), 0),
     (("--help", "replay"), 0),
+    (("--version", "x"), 0),
     (("replay",), 1),
     (("replay", "SCRIPT"), 2),
     (("replay", "SCRIPT", "journal"), 3),
     (REPLAY, 4),
     ((*REPLAY, "S"), 5),
     ((*REPLAY, "S", START), 6),
-    ((*REPLAY, "T", START, END), 4),
-    ((*REPLAY, "s", START, END), 4),
-    ((*REPLAY, "", START, END), 4),
-    ((*REPLAY, "SS", START, END), 4),
-    ((*REPLAY, "T"), 4),
+    *(((*REPLAY, it, START, END), 4) for it in NO_NAMES),
+    ((*REPLAY, "-"), 4),
     ((*REPLAY, "S", "noon"), 5),
     *(((*REPLAY, "S", it, END), 5) for it in NO_STAMPS),
     *(((*REPLAY, "S", START, it), 6) for it in NO_STAMPS),
-    *(((*REPLAY, "S", it, END), 5) for it in EARLY),
-    *(((*REPLAY, "S", START, it), 6) for it in EARLY),
-    ((*REPLAY, "S", START, "2024-05-02T00:00:01.000001Z"), 6),
-    ((*REPLAY, "S", START, "2024-05-02T00:00:02Z"), 6),
+    ((*REPLAY, "S", START, "2024-04-30T23:59:59.999999Z"), 6),
     ((*REPLAY, "S", "2024-05-01T00:00:01.000001Z", START), 6),
     ((*REPLAY, "S", END, START), 6),
     ((*REPLAY, "S", END, START, "x"), 6),
     ((*REPLAY, "S", START, END, "x"), 7),
     ((*REPLAY, "S", START, END, "--order", "0"), 7),
     ((*REPLAY, "S", START, END, ""), 7),
-]
-
-
-def bad(line):
-    return b"%d NotBuilt" % line
-
-
-MOST_BYTES = 67108864
-
-BAD_SCRIPTS = [
-    ("empty", b"", bad(1)),
-    ("no table", b"x\n", bad(1)),
-    ("a table that is cut", TABLE[:40], bad(1)),
-    ("a table without its end", TABLE[:-1], bad(1)),
-    ("a table with a CR", TABLE[:-1] + b"\r\n" + STREAM, bad(1)),
-    ("a byte order mark", b"\xef\xbb\xbf" + PREAMBLE, bad(1)),
-    ("zero bytes", bytes(200), bad(1)),
-    ("no stream", TABLE, bad(2)),
-    ("a table twice", TABLE + TABLE, bad(2)),
-    ("another stream", TABLE + STREAM.replace(b"FOR T", b"FOR ALL"), bad(2)),
-    ("a stream without its end", TABLE + STREAM[:-1], bad(2)),
-    ("an insert before the stream", TABLE + insert() + STREAM, bad(2)),
-    ("an empty line", PREAMBLE + b"\n", bad(3)),
-    ("a line without its end", PREAMBLE + insert()[:-1], bad(3)),
-    ("a line with a CR", PREAMBLE + insert()[:-1] + b"\r\n", bad(3)),
-    ("no id", PREAMBLE + insert(tx=b""), bad(3)),
-    ("an id of 65 bytes", PREAMBLE + insert(tx=b"a" * 65), bad(3)),
-    ("an id with a dash", PREAMBLE + insert(tx=b"a-b"), bad(3)),
-    ("no key", PREAMBLE + insert(key=b""), bad(3)),
-    ("a key with a zero in front", PREAMBLE + insert(key=b"01"), bad(3)),
-    ("a key of 19 digits", PREAMBLE + insert(key=b"1" * 19), bad(3)),
-    ("a key below zero", PREAMBLE + insert(key=b"-1"), bad(3)),
-    ("a key in letters", PREAMBLE + insert(key=b"one"), bad(3)),
-    ("no number", PREAMBLE + insert(a=b""), bad(3)),
-    ("a number of 19 digits", PREAMBLE + insert(a=b"9" * 19), bad(3)),
-    ("a number with a sign", PREAMBLE + insert(a=b"+5"), bad(3)),
-    ("a text with a backslash", PREAMBLE + insert(b=b"\\\\"), bad(3)),
-    ("a text with a quote", PREAMBLE + insert(b=b'x"'), bad(3)),
-    ("a text with a tab", PREAMBLE + insert(b=b"\t"), bad(3)),
-    ("a text with a delete", PREAMBLE + insert(b=b"\x7f"), bad(3)),
-    ("a text that is no ASCII", PREAMBLE + insert(b="é".encode()), bad(3)),
-    ("a text that is no UTF-8", PREAMBLE + insert(b=b"\xff"), bad(3)),
-    ("a text of 65 bytes", PREAMBLE + insert(b=b"x" * 65), bad(3)),
-    ("a stamp of another shape", PREAMBLE + insert(at=b"2024-05-01T00:00:60Z"), bad(3)),
-    ("a stamp that is no stamp", PREAMBLE + insert(at=b"noon"), bad(3)),
-    ("a blank", PREAMBLE + insert().replace(b',"commit"', b', "commit"'), bad(3)),
-    ("another table", PREAMBLE + insert().replace(b'"insert":"T"', b'"insert":"U"'), bad(3)),
-    ("an update", PREAMBLE + insert().replace(b'"insert"', b'"update"'), bad(3)),
-    ("a comment", PREAMBLE + b"# no\n", bad(3)),
-    ("a long line", PREAMBLE + b"x" * 100000 + b"\n", bad(3)),
-    ("a long first line", b"x" * 200000, bad(1)),
-    ("a fraction in a stamp", PREAMBLE + insert(at=b"2024-05-01T00:00:01.5Z"), bad(3)),
-    ("a fraction of zero in a stamp", PREAMBLE + insert(at=b"2024-05-01T00:00:01.0Z"), bad(3)),
-    ("a stamp before the table's", PREAMBLE + insert(at=b"2024-04-30T23:59:59Z"), bad(3)),
-    ("a day that no calendar has", PREAMBLE + insert(at=b"2025-02-29T00:00:00Z"), bad(3)),
-    ("an id twice", PREAMBLE + insert() + insert(key=b"2"), bad(4)),
-    ("a key twice", PREAMBLE + insert() + insert(tx=b"t2"), bad(4)),
-    ("a stamp that falls", PREAMBLE + insert(at=b"2024-05-01T00:00:02Z") + insert(key=b"2", tx=b"t2"), bad(4)),
-    ("an id twice, far apart", PREAMBLE + b"".join(insert(key=b"%d" % k, tx=b"t%d" % k) for k in range(3000)) + insert(key=b"9999", tx=b"t1"), bad(3003)),
-    ("a line behind the insert", PREAMBLE + insert() + b"\n", bad(4)),
-    ("a byte behind the insert", PREAMBLE + insert() + b"x", bad(4)),
-    ("much behind the insert", PREAMBLE + insert() + b"x\n" * 70000, bad(4)),
-    ("a bad line, and another", PREAMBLE + insert() + b"x\n" + b"y\n", bad(4)),
-    ("the longest, with a line that is cut", PREAMBLE + b"x" * (MOST_BYTES - len(PREAMBLE)), bad(3)),
-    ("the longest, with a line that is wrong", PREAMBLE + b"x" * (MOST_BYTES - len(PREAMBLE) - 1) + b"\n", bad(3)),
-    ("a line that ends one byte too late", PREAMBLE + b"x" * (MOST_BYTES - len(PREAMBLE)) + b"\n", b"0 TooLong"),
-    ("a bad line before too many bytes", PREAMBLE + b"x\n" + b"x" * MOST_BYTES, bad(3)),
+    (("check",), 1),
+    (("check", "SCRIPT"), 2),
+    (("check", "SCRIPT", "output"), 3),
+    (("check", "SCRIPT", "output", "S"), 4),
+    (("check", "SCRIPT", "output", "S", START), 5),
+    *((("check", "SCRIPT", "output", it, START, END), 3) for it in NO_NAMES),
+    (("check", "SCRIPT", "output", "S", "noon", END), 4),
+    (("check", "SCRIPT", "output", "S", START, "noon"), 5),
+    (("check", "SCRIPT", "output", "S", END, START), 5),
+    (("check", "SCRIPT", "output", "S", START, END, "x"), 6),
+    (("gen",), 1),
+    *((("gen", it), 1) for it in ("", "x", "8", "11", "50001", "50002", "-10", "+10", "10.0", " 10", "00000000010", "9999999999", "--text")),
+    (("gen", "10", "x"), 2),
+    (("gen", "10", "--TEXT"), 2),
+    (("gen", "10", "--text", "--text"), 3),
+    (("gen", "11", "--text"), 1),
 ]
 
 
@@ -172,6 +114,7 @@ GOOD_SCRIPTS = [
         change(key=b"2", tx=b"t2", at=b"2025-02-28T12:00:00Z") + watermark("2025-03-01T11:59:59.900000Z"),
     ),
     ("with a window that ends within a second", GOOD_SCRIPT, ("2024-05-01T00:00:01.000001Z", "2024-05-02T00:00:01.000001Z"), watermark("2024-05-02T00:00:01.000001Z")),
+    ("with letters of any alphabet", PREAMBLE + insert(b="\u00e9\U0001f600".encode()), WINDOW, change(b="\u00e9\U0001f600".encode()) + watermark(END)),
     ("of 10,000 commits", *many(10000)),
     ("with a text of signs", PREAMBLE + insert(b=b" !#$%&'()*+,-./:;<=>?@[]^_`{|}~"), WINDOW, change(b=b" !#$%&'()*+,-./:;<=>?@[]^_`{|}~") + watermark(END)),
 ]

@@ -1,4 +1,5 @@
 pub mod Ahead
+pub mod Broken
 pub mod Devices
 pub mod Heads
 pub mod Opened

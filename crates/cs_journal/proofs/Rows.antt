@@ -134,7 +134,7 @@ first_is_one [] is = absurd (false≢true is)
 first_is_one (a ∷ []) is = absurd (false≢true is)
 first_is_one (a ∷ b ∷ bytes) is = let one : a ≡ 1 = grind (arith, nat_tests, is) in ap (λ (n : ℕ). n ∷ b ∷ bytes) one
 
-entry_split : (bytes : List ℕ) → is_open bytes ≡ true → bytes ≡ 1 ∷ take 4 (drop 1 bytes) ++ (payload_at bytes ++ drop (5 + length_at bytes) bytes)
+pub entry_split : (bytes : List ℕ) → is_open bytes ≡ true → bytes ≡ 1 ∷ take 4 (drop 1 bytes) ++ (payload_at bytes ++ drop (5 + length_at bytes) bytes)
 entry_split bytes is =
     let n = length_at bytes in
     first_is_one bytes is

@@ -1,7 +1,7 @@
 -- What the bytes of a journal stand for. This project's own.
 --
 -- The bytes are a row of gates and entries: a gate of one byte, a length of four, low byte first, and the payload.
-use Rattle.std.specs.Prelude.{◌≡◌, ◌+◌, ◌<◌, ℕ, List, [], ◌∷◌, ◌++◌, length, take, drop, map, Bool, false, cond, nat_eq, nat_lt, Option, None, Some}
+use Rattle.std.specs.Prelude.{◌≡◌, ◌+◌, ◌<◌, ℕ, List, [], ◌∷◌, ◌++◌, length, take, drop, map, Bool, true, false, cond, nat_eq, nat_lt, Option, None, Some}
 use Rattle.std.specs.declared.result.Result.TheVariants.{Ok, Err}
 use Rattle.std.specs.declared.result.Result.{Result}
 use Rattle.std.specs.Int.{from_le_bytes, to_le_bytes, w32}
@@ -76,6 +76,11 @@ IsRows place front (s ∷ stored) =
 -- which has a byte where there are entries.
 abbrev pub IsJournalOf : List ℕ → List Stored → Type 0
 IsJournalOf bytes stored = (front : List ℕ) × (rest : List ℕ) × (bytes ≡ front ++ rest) × IsRows 0 front stored × (is_open rest ≡ false) × (0 < length front → 0 < length rest)
+
+-- And these are whole entries with open gates, behind which an open gate stands at this place that has no whole entry.
+abbrev pub HasBrokenGate : List ℕ → ℕ → Type 0
+HasBrokenGate bytes place =
+    (stored : List Stored) × (front : List ℕ) × (rest : List ℕ) × (bytes ≡ front ++ rest) × IsRows 0 front stored × (place ≡ length front) × (is_open rest ≡ true) × (is_whole rest ≡ false)
 
 -- what stands behind a gate when an entry is written there
 abbrev pub behind_gate : List ℕ → List ℕ

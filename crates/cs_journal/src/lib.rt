@@ -15,4 +15,4 @@ mod window;
 pub use fault::JournalFault;
 pub use framed::{Framed, frame};
 pub use journal::{Journal, Stored};
-pub use laws::payloads_are_those_of_the_entries;
+pub use laws::{a_broken_gate_has_no_whole_entry, payloads_are_those_of_the_entries};

@@ -58,7 +58,7 @@ fn a_bad_word_is_counted(rt: HostRuntime) -> Result<(), Fail> {
 #[test]
 fn a_bad_line_is_counted(rt: HostRuntime) -> Result<(), Fail> {
     let told = plain(rt.alloc(), ONE, "x\n", "")?;
-    assert_eq!(rt; told.as_str(), "51|51 BadScript 1 NotBuilt\n|journal||");
+    assert_eq!(rt; told.as_str(), "51|51 BadScript 1 NotJson\n|journal||");
     Ok(())
 }
 
@@ -114,5 +114,54 @@ fn over_a_failing_console(alloc: Global) -> Result<Objects, Memory> {
 fn a_console_that_fails(rt: HostRuntime) -> Result<(), Fail> {
     let told = told(rt.alloc(), ONE, over_a_failing_console(rt.alloc())?)?;
     assert_eq!(rt; told.as_str(), SILENT);
+    Ok(())
+}
+
+const CHECK: &str = "check a c S 2024-05-01T00:00:01Z 2024-05-01T00:00:01Z";
+
+const CHANGE: &str =
+    "{\"key\":{\"K\":\"1\"},\"kind\":\"INSERT\",\"new\":{\"A\":\"5\",\"B\":\"x\"},\"old\":{},\"stamp\":\"2024-05-01T00:00:01Z\",\"table\":\"T\",\"tx\":\"t1\"}\n";
+
+/// The status and the console of a check of this output.
+fn checked(alloc: Global, output: &str) -> Result<String, Memory> {
+    plain(alloc, CHECK, INSERT, output)
+}
+
+#[test]
+fn an_output_without_its_watermark_is_a_beginning(rt: HostRuntime) -> Result<(), Fail> {
+    let told = checked(rt.alloc(), CHANGE)?;
+    assert!(rt; told.as_str().starts_with("11|11 Verdict Prefix -\n|journal|{"));
+    Ok(())
+}
+
+#[test]
+fn an_output_of_no_line_is_bad(rt: HostRuntime) -> Result<(), Fail> {
+    let told = checked(rt.alloc(), "x\n")?;
+    assert_eq!(rt; told.as_str(), "56|56 BadOutput 1\n|journal|x\n|");
+    Ok(())
+}
+
+#[test]
+fn an_odd_number_of_commits_is_a_bad_word(rt: HostRuntime) -> Result<(), Fail> {
+    let told = plain(rt.alloc(), "gen 11", "", "")?;
+    assert_eq!(rt; told.as_str(), "50|50 BadWords 1\n|journal||");
+    Ok(())
+}
+
+const SUMMARY: &str =
+    "0|gen 10 commits 10 changes 10 parts 9\norder 0 Complete\norder 1 Complete\norder 2 Complete\n0 Ended\n|journal||";
+
+#[test]
+fn a_generated_script_is_replayed_and_audited(rt: HostRuntime) -> Result<(), Fail> {
+    let told = plain(rt.alloc(), "gen 10", "", "")?;
+    assert_eq!(rt; told.as_str(), SUMMARY);
+    Ok(())
+}
+
+#[test]
+fn an_absent_stream_is_refused(rt: HostRuntime) -> Result<(), Fail> {
+    let words = "replay a b c R 2024-05-01T00:00:01Z 2024-05-01T00:00:01Z";
+    let told = plain(rt.alloc(), words, INSERT, "")?;
+    assert_eq!(rt; told.as_str(), "21|21 Refused UnknownFunction\n|journal||");
     Ok(())
 }

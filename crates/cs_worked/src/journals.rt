@@ -212,3 +212,23 @@ fn a_put_whose_gate_is_stopped_is_whole_or_absent(rt: HostRuntime) -> Result<(),
     );
     Ok(())
 }
+
+/// How many calls an opening over so many empty entries makes.
+fn opening_calls(alloc: Global, entries: u32) -> Result<u64, Memory> {
+    let mut file = Vec::new(alloc);
+    for _ in 0..entries {
+        file.extend_from_slice(b"\x01\0\0\0\0")?;
+    }
+    file.push(0)?;
+    match Journal::open(alloc, disk_of(alloc, &file, &[])?) {
+        Ok((journal, _stored)) => Ok(journal.close().calls()),
+        Err((_fault, _disk)) => Ok(0),
+    }
+}
+
+#[test]
+fn small_entries_take_no_read_each(rt: HostRuntime) -> Result<(), Fail> {
+    let calls = opening_calls(rt.alloc(), 20_000)?;
+    assert_eq!(rt; calls, OPENING + 1);
+    Ok(())
+}

@@ -6,43 +6,118 @@ use std::process::ExitCode;
 const VERSION: &str = "spanstream 0.1.0\n";
 
 const HELP: &str =
-    "spanstream replays a scripted database, and writes what a change stream of it tells.
+    "spanstream replays a scripted database, and writes and checks what a change stream of it tells.
 
 usage:
   spanstream replay SCRIPT JOURNAL OUTPUT STREAM START END
+  spanstream check SCRIPT OUTPUT STREAM START END
+  spanstream gen N [--text]
+  spanstream COMMAND --help
   spanstream --help
   spanstream --version
 
-replay reads the script, and writes a line for each change with START <= stamp <= END
-to the output, in commit order, and then a watermark line for END.
-  SCRIPT   a file to read, at most 67,108,864 bytes: the two lines of the table T and the
-           stream S, and a line for each commit that inserts a row (docs/FORMATS.md has the form)
+replay writes a line for each change with START <= stamp <= END to the output, in commit
+order, and then a watermark line for END. check judges such an output. gen makes a
+realistic script of N commits.
+  SCRIPT   a file to read, at most 67,108,864 bytes: a JSON line for each statement,
+           commit or reshape of partitions (docs/FORMATS.md has the form)
   JOURNAL  a file, made where it is absent; it stays as it is
-  OUTPUT   a file, made where it is absent; it must be empty
-  STREAM   S
-  START    a stamp from 2024-05-01T00:00:00Z on, with up to six digits of a second's fraction
-  END      a stamp from START to 86,400 seconds behind it
+  OUTPUT   a file; replay makes it where it is absent, and it must be empty
+  STREAM   the name of a change stream of the script
+  START    a stamp such as 2024-05-01T00:00:00Z, with up to six digits of a second's fraction
+  END      a stamp that is not below START
 
-There are no options. The last line on standard output has the status and its name:
-   0 Ended           the output is complete
+The last line on standard output has the status and its name:
+   0 Ended           all is done: of replay and check, the output is complete
+  11 Verdict V       check: the output is not complete, and V says what it is
+  20 RetentionPassed T  START is before T, the earliest moment that the stream keeps at END
+  21 Refused KIND    the script has no such stream, or it was created after START
   41 OutputFault     a call on the output failed
   42 SourceFault     a read of the script failed
   43 ConsoleFault    the write to standard output failed (no line)
   50 BadWords N      word N, counted from 0 behind the program's name, is missing, wrong or one too many
-  51 BadScript N C   line N of the script, counted from 1, is the first that breaks the form (NotBuilt);
+  51 BadScript N C   line N of the script, counted from 1, is the first bad one, and C says why;
                      0 TooLong: the script has more bytes than it may
-  55 OutputNotEmpty N  the output has N bytes already; it stays as it is
+  55 OutputNotEmpty N  replay: the output has N bytes already; it stays as it is
+  56 BadOutput N     check: line N of the output is neither a change nor a watermark
   60 Memory          memory was wanting
   70                 a file cannot be opened (no line)
 ";
 
-/// The answer to a word that stands alone, where there is one.
-pub fn answer_of(word: &str) -> Option<&'static str> {
+const REPLAY: &str =
+    "usage: spanstream replay SCRIPT JOURNAL OUTPUT STREAM START END
+
+Reads the script, and writes to the output a line for each change that the change stream
+tells from START to END, in commit order, and then a watermark line for END.
+  SCRIPT   a file to read, a JSON line for each statement, commit or reshape
+  JOURNAL  a file, made where it is absent; it stays as it is
+  OUTPUT   a file, made where it is absent; it must be empty
+  STREAM   the name of a change stream of the script
+  START    a stamp, not before the stream's creation and not before END less its retention_period
+  END      a stamp that is not below START
+It ends with 0, 20, 21, 41, 42, 43, 50, 51, 55, 60 or 70.
+
+example: spanstream replay examples/one-insert.script /tmp/journal /tmp/output S 2024-05-01T00:00:01Z 2024-05-01T00:00:01Z
+";
+
+const CHECK: &str =
+    "usage: spanstream check SCRIPT OUTPUT STREAM START END
+
+Reads the script and an output, and says whether the output is what the change stream tells
+from START to END. Both files must be there, and stay as they are.
+   0 Ended              the output is complete
+  11 Verdict Prefix T   it is right so far, up to the watermark T (- is none), and not complete
+  11 Verdict Extra N    line N is the line of no change that is wanted
+  11 Verdict OutOfOrder N      line N is not the next one of its row
+  11 Verdict WatermarkEarly N  before the watermark of line N a change up to it is missing
+  11 Verdict WatermarkBack N   the watermark of line N is not above the last one, or is above END
+  56 BadOutput N        line N is neither a change nor a watermark, or has no end
+It ends with 0, 11, 21, 41, 42, 43, 50, 51, 56, 60 or 70.
+
+example: spanstream check examples/one-insert.script /tmp/output S 2024-05-01T00:00:01Z 2024-05-01T00:00:01Z
+";
+
+const GEN: &str =
+    "usage: spanstream gen N [--text]
+
+Makes a script of N commits over the tables Singers and Albums, with a change stream G,
+splits and merges of its partitions. N is an even number from 10 to 50,000.
+  --text   print the script, and nothing else
+Without --text it replays the script in memory, audits the outputs and prints a summary.
+It ends with 0, 43, 50 or 60.
+
+example: spanstream gen 5000 --text > /tmp/script
+";
+
+/// The answer to words that ask for help, where these do.
+pub fn answer_of(words: &[String]) -> Option<&'static str> {
+    match words {
+        [word] => alone(word.as_str()),
+        [command, word] => if word.as_str() == "--help" { of_command(command.as_str()) } else { None },
+        _ => None,
+    }
+}
+
+/// The answer to a word that stands alone.
+fn alone(word: &str) -> Option<&'static str> {
     if word == "--help" {
         return Some(HELP);
     }
     if word == "--version" {
         return Some(VERSION);
+    }
+    None
+}
+
+fn of_command(command: &str) -> Option<&'static str> {
+    if command == "replay" {
+        return Some(REPLAY);
+    }
+    if command == "check" {
+        return Some(CHECK);
+    }
+    if command == "gen" {
+        return Some(GEN);
     }
     None
 }

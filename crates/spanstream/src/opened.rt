@@ -1,16 +1,32 @@
 //! The top call over the files that the words name.
 
 use crate::CANNOT_OPEN;
-use cs_device::{FileDisk, FileSink, FileSource, MemDisk, MemSource};
+use crate::told::{Paths, say};
+use cs_device::{Disk, FileDisk, FileSink, FileSource, MemDisk, MemSource, Source};
 use cs_tool::{Command, Status, WordsFault, expected_at, read_words, run};
 use cs_types::{Items, Memory};
 use std::fs::{File, OpenOptions};
 use std::io;
 
+/// No files are named.
+const NO_PATHS: Paths<'static> = Paths {
+    script: "",
+    output: "",
+};
+
 /// Makes the top call, and says on standard error what a status above 0 means.
 pub fn run_on(rt: &HostRuntime, words: &[String]) -> u8 {
     match read_words(rt.alloc(), words) {
-        Ok(command) => on_files(rt, words, &command),
+        Ok(Command::Replay {
+            script,
+            journal,
+            output,
+            ..
+        }) => replay(rt, words, script.as_str(), journal.as_str(), output.as_str()),
+        Ok(Command::Check { script, output, .. }) => {
+            check(rt, words, script.as_str(), output.as_str())
+        }
+        Ok(Command::Gen { .. }) => without_files(rt, words),
         Err(fault) => {
             hint(rt, words, fault);
             without_files(rt, words)
@@ -18,59 +34,71 @@ pub fn run_on(rt: &HostRuntime, words: &[String]) -> u8 {
     }
 }
 
-fn on_files(rt: &HostRuntime, words: &[String], command: &Command) -> u8 {
-    let Command::Replay {
-        script,
-        journal,
-        output,
-        ..
-    } = command;
-    let Ok(script) = File::open(rt, script.as_str()) else {
-        return cannot_open(rt, script.as_str());
+fn replay(rt: &HostRuntime, words: &[String], script: &str, journal: &str, output: &str) -> u8 {
+    let paths = Paths { script, output };
+    let Ok(source) = File::open(rt, script) else {
+        return cannot_open(rt, script);
     };
-    let Ok(journal) = open_disk(rt, journal.as_str()) else {
-        return cannot_open(rt, journal.as_str());
+    let Ok(journal_file) = open_disk(rt, journal) else {
+        return cannot_open(rt, journal);
     };
-    let Ok(output) = open_disk(rt, output.as_str()) else {
-        return cannot_open(rt, output.as_str());
+    let Ok(output_file) = open_disk(rt, output) else {
+        return cannot_open(rt, output);
     };
-    let mut script = FileSource::new(script);
-    let mut journal = FileDisk::new(journal);
-    let mut output = FileDisk::new(output);
-    let mut console = FileSink::new(io::writer(rt));
-    let status = run(
-        rt.alloc(),
-        words,
-        &mut script,
-        &mut journal,
-        &mut output,
-        &mut console,
-    );
-    told(rt, &status)
+    let mut source = FileSource::new(source);
+    let mut journal_disk = FileDisk::new(journal_file);
+    let mut output_disk = FileDisk::new(output_file);
+    let status = on_objects(rt, words, &mut source, &mut journal_disk, &mut output_disk);
+    say(rt, &status, &paths)
+}
+
+fn check(rt: &HostRuntime, words: &[String], script: &str, output: &str) -> u8 {
+    let paths = Paths { script, output };
+    let Ok(source) = File::open(rt, script) else {
+        return cannot_open(rt, script);
+    };
+    let Ok(output_file) = File::open(rt, output) else {
+        return cannot_open(rt, output);
+    };
+    let Ok(mut journal) = no_disk(rt) else {
+        return say(rt, &Status::Memory, &NO_PATHS);
+    };
+    let mut source = FileSource::new(source);
+    let mut output_disk = FileDisk::new(output_file);
+    let status = on_objects(rt, words, &mut source, &mut journal, &mut output_disk);
+    say(rt, &status, &paths)
 }
 
 /// Empty objects in memory stand for what the words do not name.
 fn without_files(rt: &HostRuntime, words: &[String]) -> u8 {
     match in_memory(rt, words) {
-        Ok(status) => told(rt, &status),
-        Err(Memory) => told(rt, &Status::Memory),
+        Ok(status) => say(rt, &status, &NO_PATHS),
+        Err(Memory) => say(rt, &Status::Memory, &NO_PATHS),
     }
 }
 
 fn in_memory(rt: &HostRuntime, words: &[String]) -> Result<Status, Memory> {
     let alloc = rt.alloc();
     let mut script = MemSource::new(alloc, Items::new(alloc), Items::new(alloc))?;
-    let mut journal = MemDisk::new(alloc, Items::new(alloc), 0, 0, Items::new(alloc))?;
-    let mut output = MemDisk::new(alloc, Items::new(alloc), 0, 0, Items::new(alloc))?;
+    let mut journal = no_disk(rt)?;
+    let mut output = no_disk(rt)?;
+    Ok(on_objects(rt, words, &mut script, &mut journal, &mut output))
+}
+
+fn on_objects<S: Source, J: Disk, O: Disk>(
+    rt: &HostRuntime,
+    words: &[String],
+    script: &mut S,
+    journal: &mut J,
+    output: &mut O,
+) -> Status {
     let mut console = FileSink::new(io::writer(rt));
-    Ok(run(
-        alloc,
-        words,
-        &mut script,
-        &mut journal,
-        &mut output,
-        &mut console,
-    ))
+    run(rt.alloc(), words, script, journal, output, &mut console)
+}
+
+fn no_disk(rt: &HostRuntime) -> Result<MemDisk, Memory> {
+    let alloc = rt.alloc();
+    MemDisk::new(alloc, Items::new(alloc), 0, 0, Items::new(alloc))
 }
 
 /// A file to read and write, made where it is absent.
@@ -82,21 +110,16 @@ fn open_disk(rt: &HostRuntime, path: &str) -> io::Result<File> {
         .open(rt, path)
 }
 
-/// One plain line for each status above 0.
-fn told(rt: &HostRuntime, status: &Status) -> u8 {
-    let code = status.code();
-    if code > 0 {
-        let _ = eprintln!(rt; "spanstream: {}", status.advice());
-    }
-    code
-}
-
 /// The word at fault, and the form that was expected.
 fn hint(rt: &HostRuntime, words: &[String], fault: WordsFault) {
     let WordsFault::At(place) = fault else {
         return;
     };
-    let expected = expected_at(place);
+    let first = match words.get(0) {
+        Some(word) => word.as_str(),
+        None => "",
+    };
+    let expected = expected_at(first, place);
     let told = match words.get(place) {
         Some(word) => eprintln!(rt; "spanstream: word {place} is {word:?}; expected {expected}"),
         None => eprintln!(rt; "spanstream: word {place} is missing; expected {expected}"),

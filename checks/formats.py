@@ -1,0 +1,61 @@
+"""The examples of docs/FORMATS.md: its script with its output, a line for each cause, outputs with their verdicts, and
+what a command prints."""
+import os
+import re
+
+import model
+from lines import ddl
+
+FENCE = re.compile(r"^```(script|output|judged|console)( [^\n]*)?\n(.*?)^```$", re.M | re.S)
+CAUSE = re.compile(r"^\| ([A-Z]\w+(?: [A-Z]\w+)?) \| [^|]* \| `(\{.*)` \|$", re.M)
+STATEMENT = re.compile(r"^\| [0-9]+ \| (\w+)(?:\([^)]*\))? \| [^|]* \| `([A-Z]{4,} .*)` \|$", re.M)
+
+
+def parts_of(path):
+    """The script, the other fences as (what, words, text), and the lines that are refused with their causes."""
+    with open(path, encoding="utf-8") as file:
+        text = file.read()
+    fences = [(what, words.split(), content) for what, words, content in FENCE.findall(text)]
+    scripts = [content.encode() for what, _, content in fences if what == "script"]
+    lines = [(cause, line.encode() + b"\n") for cause, line in CAUSE.findall(text)]
+    lines += [(f"Schema {refusal}", ddl(statement, 4)) for refusal, statement in STATEMENT.findall(text)]
+    return scripts, [it for it in fences if it[0] != "script"], lines
+
+
+def check_refused(note, room, script, cause, line):
+    want = f"51 BadScript {len(script.splitlines()) + 1} {cause}\n"
+    window = ("S", "2024-05-01T00:00:01Z", "2024-05-01T00:00:10Z")
+    own = model.replay(script + line, *window)
+    note(own.console == want, f"FORMATS.md, {line}: the model", own.console)
+    room.clear()
+    ran = room.run(["replay", room.put("script", script + line), "journal", "output", *window])
+    note(ran.returncode == 51 and ran.stdout.decode() == want, f"FORMATS.md, {line}", str(ran)[:400])
+
+
+def check_fence(note, room, script, what, words, content):
+    room.clear()
+    if what == "console":
+        ran = room.run(words)
+        note(ran.returncode == 0 and ran.stdout.decode() == content, f"FORMATS.md, {words}", str(ran)[:400])
+        return
+    window, path = words[:3], room.put("script", script)
+    if what == "output":
+        own = model.replay(script, *window)
+        note(own.status == 0 and own.output == content.encode(), f"FORMATS.md, replay of {window}: the model", own.console)
+        ran = room.run(["replay", path, "journal", "output", *window])
+        note(ran.returncode == 0 and room.read("output") == content.encode(), f"FORMATS.md, replay of {window}", str(ran)[:400])
+        return
+    want = " ".join(words[3:]) + "\n"
+    own = model.check(script, content.encode(), *window)
+    note(own.console == want, f"FORMATS.md, check of {content}: the model", own.console)
+    ran = room.run(["check", path, room.put("output", content.encode()), *window])
+    note(ran.returncode == own.status and ran.stdout.decode() == want, f"FORMATS.md, check of {content}", str(ran)[:400])
+
+
+def check(note, room, top):
+    scripts, fences, lines = parts_of(os.path.join(top, "docs", "FORMATS.md"))
+    note(len(scripts) == 1 and len(fences) >= 5 and len(lines) >= 30, "FORMATS.md has its examples", (len(scripts), len(fences), len(lines)))
+    for fence in fences:
+        check_fence(note, room, scripts[0], *fence)
+    for cause, line in lines:
+        check_refused(note, room, scripts[0], cause, line)

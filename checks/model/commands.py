@@ -1,0 +1,179 @@
+"""What the commands answer: the status, the console's last line, and for a replay the output."""
+import functools
+import re
+
+from .generated import END, START, STREAM, script_of
+from .history import captured
+from .refusal import Refusal
+from .script import BadScript, load
+from .texts import compact, read_stamp, tree_of, write_stamp
+
+NAME = re.compile(r"[A-Za-z][A-Za-z0-9_]{0,127}")
+WATERMARK = re.compile(r'\{"watermark":"([^"]*)"\}')
+CHANGE = '{"key":'
+
+
+class Answer:
+    def __init__(self, status, name, *values, output=b""):
+        self.status = status
+        self.console = " ".join([str(status), name, *(str(it) for it in values)]) + "\n"
+        self.output = output
+
+
+class Change:
+    def __init__(self, item, line):
+        self.at = item.at
+        self.row = item.write.row()
+        self.line = line
+
+
+@functools.lru_cache(maxsize=4)
+def loaded(script):
+    """The state of a script's lines, or why there is none."""
+    try:
+        return load(script)
+    except BadScript as bad:
+        return bad
+
+
+def line_of(table, item, new, old):
+    def cells(values):
+        return {name: tree_of(values[name], table.code(name)) for name in sorted(values)}
+
+    write = item.write
+    return compact({
+        "key": cells(write.key), "kind": write.kind, "new": cells(new), "old": cells(old), "stamp": write_stamp(item.at), "table": write.table, "tx": item.tx,
+    })
+
+
+def watermark(at):
+    return compact({"watermark": write_stamp(at)})
+
+
+def wanted(state, stream, start, end):
+    """The stream's changes of the window, in the order of the commits."""
+    found = []
+    for item in state.history.modifications:
+        if start <= item.at <= end:
+            table = state.catalog.tables[item.write.table]
+            both = captured(table, item.write.table, state.catalog.streams[stream], item)
+            if both is not None:
+                found.append(Change(item, line_of(table, item, *both)))
+    return found
+
+
+def bad_window(stream, start, end, before):
+    """The place of the first bad word of a window, where there is one; so many words stand before the stream."""
+    if not NAME.fullmatch(stream):
+        return before
+    stamps = []
+    for place, word in enumerate((start, end)):
+        try:
+            stamps.append(read_stamp(word))
+        except Refusal:
+            return before + 1 + place
+    return before + 2 if stamps[1] < stamps[0] else None
+
+
+def replay(script, stream, start, end, output=b""):
+    """Of a replay over a script's bytes into an output that has these bytes."""
+    place = bad_window(stream, start, end, 4)
+    if place is not None:
+        return Answer(50, "BadWords", place, output=output)
+    state = loaded(script)
+    if isinstance(state, BadScript):
+        return Answer(51, "BadScript", state.line, state.cause, output=output)
+    if output:
+        return Answer(55, "OutputNotEmpty", len(output), output=output)
+    start, end = read_stamp(start), read_stamp(end)
+    if stream not in state.catalog.streams:
+        return Answer(21, "Refused", "UnknownFunction")
+    if start < state.catalog.streams[stream].created:
+        return Answer(21, "Refused", "StartBeforeCreation")
+    earliest = end - state.catalog.streams[stream].retention
+    if start < earliest:
+        return Answer(20, "RetentionPassed", write_stamp(earliest))
+    lines = [it.line for it in wanted(state, stream, start, end)] + [watermark(end)]
+    return Answer(0, "Ended", output="".join(it + "\n" for it in lines).encode())
+
+
+def is_line(line):
+    try:
+        text = line.decode()
+    except UnicodeDecodeError:
+        return False
+    if text.startswith(CHANGE):
+        return True
+    found = WATERMARK.fullmatch(text)
+    try:
+        return found is not None and watermark(read_stamp(found[1])) == text
+    except Refusal:
+        return False
+
+
+def read_output(data):
+    """The lines of an output; a bad one is refused with its number."""
+    *lines, rest = data.split(b"\n")
+    for number, line in enumerate(lines + [rest] if rest else lines, 1):
+        if not is_line(line):
+            raise Refusal("BadLine", number)
+    if rest:
+        raise Refusal("NoEnd", len(lines) + 1)
+    return [it.decode() for it in lines]
+
+
+def audit(lines, changes, end):
+    """The verdict's words: the first line that offends, and its first offence; or how far the output is."""
+    places = {it.line: place for place, it in enumerate(changes)}
+    by_row = {}
+    for place, change in enumerate(changes):
+        by_row.setdefault(change.row, []).append(place)
+    stood, first_missing, last = set(), 0, None
+    for number, line in enumerate(lines, 1):
+        found = WATERMARK.fullmatch(line)
+        if not found:
+            if line not in places:
+                return "Extra", number
+            place = places[line]
+            if by_row[changes[place].row][:1] != [place]:
+                return "OutOfOrder", number
+            by_row[changes[place].row].pop(0)
+            stood.add(place)
+            continue
+        at = read_stamp(found[1])
+        while first_missing in stood:
+            first_missing += 1
+        # stamps do not fall in the list, so the first that is missing has the least stamp
+        if first_missing < len(changes) and changes[first_missing].at <= at:
+            return "WatermarkEarly", number
+        if (last is not None and at <= last) or at > end:
+            return "WatermarkBack", number
+        last = at
+    if len(stood) == len(changes) and lines and lines[-1] == watermark(end):
+        return ("Complete",)
+    return "Prefix", "-" if last is None else write_stamp(last)
+
+
+def check(script, output, stream, start, end):
+    place = bad_window(stream, start, end, 3)
+    if place is not None:
+        return Answer(50, "BadWords", place)
+    state = loaded(script)
+    if isinstance(state, BadScript):
+        return Answer(51, "BadScript", state.line, state.cause)
+    if stream not in state.catalog.streams:
+        return Answer(21, "Refused", "UnknownFunction")
+    try:
+        lines = read_output(output)
+    except Refusal as bad:
+        return Answer(56, "BadOutput", bad.held)
+    verdict = audit(lines, wanted(state, stream, read_stamp(start), read_stamp(end)), read_stamp(end))
+    return Answer(0, "Ended") if verdict == ("Complete",) else Answer(11, "Verdict", *verdict)
+
+
+def gen(commits):
+    """All that `gen N` prints."""
+    state = load(script_of(commits))
+    changes = wanted(state, STREAM, read_stamp(START), read_stamp(END))
+    lines = [f"gen {commits} commits {commits} changes {len(changes)} parts {len(state.layouts[STREAM].parts)}"]
+    return "".join(it + "\n" for it in lines + [f"order {it} Complete" for it in range(3)] + ["0 Ended"])

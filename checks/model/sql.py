@@ -1,0 +1,231 @@
+"""The statements of a script. A text outside of the grammar is refused with the byte of the first token with which no
+text of the grammar goes on."""
+import re
+
+from .refusal import Refusal
+
+BLANKS = re.compile(rb"[ \t\r\n]*")
+WORD = re.compile(rb"[A-Za-z][A-Za-z0-9_]*")
+QUOTED = re.compile(rb"`([A-Za-z][A-Za-z0-9_]{0,127})`")
+NUMBER = re.compile(rb"-?[0-9]+")
+TEXT = re.compile(rb"'([^'\\\r\n]*)'|\"([^\"\\\r\n]*)\"")
+SIGN = re.compile(rb"=>|[(),;=]")
+RESERVED = {"ALL", "ASC", "FALSE", "FOR", "NOT", "NULL", "TRUE"}
+PLAIN_TYPES = ("BOOL", "INT64", "NUMERIC", "DATE", "TIMESTAMP")
+SIZED_TYPES = ("STRING", "BYTES")
+
+
+class Cursor:
+    """The token that comes next: its kind, its text, and where it begins."""
+
+    def __init__(self, text):
+        self.data = text.encode()
+        self.end = 0
+        self.step()
+
+    def step(self):
+        self.place = BLANKS.match(self.data, self.end).end()
+        self.kind, self.text, self.end = self.token()
+
+    def token(self):
+        at = self.place
+        if at == len(self.data):
+            return "end", "", at
+        if found := WORD.match(self.data, at):
+            return ("word" if len(found[0]) <= 128 else "bad"), found[0].decode(), found.end()
+        if found := QUOTED.match(self.data, at):
+            return "quoted", found[1].decode(), found.end()
+        if found := NUMBER.match(self.data, at):
+            return ("number" if len(found[0].lstrip(b"-")) <= 19 else "bad"), found[0].decode(), found.end()
+        if found := TEXT.match(self.data, at):
+            return "text", (found[1] if found[1] is not None else found[2]).decode(), found.end()
+        if found := SIGN.match(self.data, at):
+            return "sign", found[0].decode(), found.end()
+        return "bad", "", at
+
+    def fail(self):
+        raise Refusal("At", self.place)
+
+    def take(self):
+        text = self.text
+        self.step()
+        return text
+
+    def is_word(self, *words):
+        return self.kind == "word" and self.text.upper() in words
+
+    def is_sign(self, sign):
+        return self.kind == "sign" and self.text == sign
+
+    def words(self, *words):
+        for word in words:
+            if not self.is_word(word):
+                self.fail()
+            self.step()
+
+    def sign(self, sign):
+        if not self.is_sign(sign):
+            self.fail()
+        self.step()
+
+    def had_sign(self, sign):
+        if self.is_sign(sign):
+            self.step()
+            return True
+        return False
+
+    def had_word(self, word):
+        if self.is_word(word):
+            self.step()
+            return True
+        return False
+
+    def name(self):
+        if self.kind != "quoted" and (self.kind != "word" or self.text.upper() in RESERVED):
+            self.fail()
+        return self.take()
+
+
+def size(at):
+    at.sign("(")
+    if at.is_word("MAX"):
+        at.step()
+        found = None
+    elif at.kind == "number":
+        found = int(at.take())
+    else:
+        at.fail()
+    at.sign(")")
+    return found
+
+
+def type_of(at):
+    """The type's code, and its length; None is MAX."""
+    if at.is_word(*PLAIN_TYPES):
+        return at.take().upper(), None
+    if at.is_word(*SIZED_TYPES):
+        return at.take().upper(), size(at)
+    at.fail()
+
+
+def column(at):
+    name = at.name()
+    code, length = type_of(at)
+    not_null = at.is_word("NOT")
+    if not_null:
+        at.words("NOT", "NULL")
+    return name, code, length, not_null
+
+
+def key(at):
+    name = at.name()
+    at.had_word("ASC")
+    return name
+
+
+def create_table(at):
+    name = at.name()
+    at.sign("(")
+    columns = [column(at)]
+    while at.had_sign(","):
+        if at.is_sign(")"):
+            break
+        columns.append(column(at))
+    at.sign(")")
+    at.words("PRIMARY", "KEY")
+    at.sign("(")
+    keys = [key(at)]
+    while at.had_sign(","):
+        keys.append(key(at))
+    at.sign(")")
+    return "CreateTable", name, columns, keys
+
+
+def item(at):
+    """A table, and its listed columns; None is all of them."""
+    name = at.name()
+    if not at.had_sign("("):
+        return name, None
+    columns = []
+    if not at.is_sign(")"):
+        columns.append(at.name())
+        while at.had_sign(","):
+            columns.append(at.name())
+    at.sign(")")
+    return name, columns
+
+
+def watch(at):
+    if at.had_word("ALL"):
+        return "ALL"
+    items = [item(at)]
+    while at.had_sign(","):
+        items.append(item(at))
+    return items
+
+
+def option(at):
+    """The option's name, and its value: a text, True, False or None."""
+    name = at.name()
+    at.sign("=")
+    if at.kind == "text":
+        return name, at.take()
+    if not at.is_word("TRUE", "FALSE", "NULL"):
+        at.fail()
+    return name, {"TRUE": True, "FALSE": False, "NULL": None}[at.take().upper()]
+
+
+def options(at):
+    at.sign("(")
+    found = [option(at)]
+    while at.had_sign(","):
+        found.append(option(at))
+    at.sign(")")
+    return found
+
+
+def create_stream(at):
+    name = at.name()
+    watched = watch(at) if at.had_word("FOR") else []
+    return "CreateStream", name, watched, options(at) if at.had_word("OPTIONS") else []
+
+
+def alter_stream(at):
+    at.name()
+    if at.had_word("DROP"):
+        at.words("FOR", "ALL")
+    else:
+        at.words("SET")
+        if at.had_word("FOR"):
+            watch(at)
+        else:
+            at.words("OPTIONS")
+            options(at)
+    return ("NotBuilt",)
+
+
+def statement(at):
+    if at.had_word("CREATE"):
+        if at.had_word("TABLE"):
+            return create_table(at)
+        at.words("CHANGE", "STREAM")
+        return create_stream(at)
+    if at.had_word("ALTER"):
+        if at.had_word("TABLE"):
+            table = at.name()
+            at.words("ADD", "COLUMN")
+            return "AddColumn", table, (at.name(), *type_of(at), False)
+        at.words("CHANGE", "STREAM")
+        return alter_stream(at)
+    at.words("DROP", "CHANGE", "STREAM")
+    at.name()
+    return ("NotBuilt",)
+
+
+def parse(text):
+    at = Cursor(text)
+    found = statement(at)
+    at.had_sign(";")
+    if at.kind != "end":
+        at.fail()
+    return found

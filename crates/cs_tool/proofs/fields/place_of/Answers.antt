@@ -1,5 +1,0 @@
-use Rattle.cs_tool.proofs.Places.{first_place}
-use Rattle.cs_tool.proofs.fields.place_of.Goals as goal
-
-pub returns : goal.returns
-returns c = first_place c.args.byte c.args.bytes.now c.memchr.result c.memchr.ensures

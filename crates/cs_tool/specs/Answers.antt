@@ -1,0 +1,138 @@
+-- What the parts of a run answer, this project's own.
+use Rattle.std.specs.Prelude.{◌≡◌, ◌≢◌, ◌⊎◌, ◌<◌, ℕ, List, length, Option, Some, None, IfSome, ⊤}
+use Rattle.std.specs.Io.KnownBytes.{Keeps}
+use Rattle.cs_types.specs.declared.change.Change.{Change}
+use Rattle.cs_types.specs.declared.names.Window.{Window}
+use Rattle.cs_schema.specs.declared.types.Stream.{Stream}
+use Rattle.cs_device.specs.Causes.{Rose}
+use Rattle.cs_output.specs.Output.{IsComplete, text_of_lines, whole_lines}
+use Rattle.cs_output.specs.Reading.{AreLinesOf, IsTextFault}
+use Rattle.cs_output.specs.declared.reading.Line.{Line}
+use Rattle.cs_output.specs.declared.reading.TextFault.TheVariants.{BadLine, NoEnd}
+use Rattle.cs_audit.specs.Audit.{IsVerdict}
+use Rattle.cs_audit.specs.declared.verdict.Verdict.{Verdict as Judged}
+use Rattle.cs_audit.specs.declared.verdict.Verdict.TheVariants.{Complete}
+use Rattle.cs_link.specs.declared.refusal.ReadRefusal.{ReadRefusal}
+use Rattle.cs_script.specs.Database.{Database}
+use Rattle.cs_tool.specs.Database.{IsStreamIn, HasNoStream, wanted_in, IsWithin, IsRefusedAs, IsPassed, IsBadScript}
+use Rattle.cs_tool.specs.declared.status.Status.{Status}
+use Rattle.cs_tool.specs.declared.status.Status.TheVariants.{Ended, Verdict, RetentionPassed, Refused, OutputFault, SourceFault, ConsoleFault, BadWords, BadScript, OutputNotEmpty, BadOutput, Memory}
+
+-- an object that told its bytes tells them still, and they are so
+abbrev pub OnTold : Option (List ℕ) → Option (List ℕ) → (List ℕ → Type 0) → Type 0
+OnTold None new P = ⊤
+OnTold (Some old) None P = ⊥
+OnTold (Some old) (Some new) P = P new
+
+-- where there were bytes, they stand
+abbrev pub KeepsFilled : Option (List ℕ) → Option (List ℕ) → Type 0
+KeepsFilled old new = IfSome old (λ bytes. 0 < length bytes → Keeps old new)
+
+-- the text is just the lines of the wanted changes in their order, one line each, and then the watermark of the end; nothing is to be added to it
+pub record IsWholeText (wanted : List Change) (end : ℕ) (text : List ℕ) : Type 0 where
+  pub exact : text ≡ text_of_lines (whole_lines wanted end)
+  pub complete : IsComplete text wanted end
+
+-- the text is whole for what the window wants of the database, and the window is within what its stream keeps
+pub record IsTextIn (db : Database) (w : Window) (text : List ℕ) : Type 0 where
+  pub stream : Stream
+  pub there : IsStreamIn db w.stream stream
+  pub within : IsWithin stream w
+  pub whole : IsWholeText (wanted_in db stream w.start w.end) w.end text
+
+-- the text is complete for what the window wants of the database
+pub record IsCompleteIn (db : Database) (w : Window) (text : List ℕ) : Type 0 where
+  pub stream : Stream
+  pub there : IsStreamIn db w.stream stream
+  pub complete : IsComplete text (wanted_in db stream w.start w.end) w.end
+
+-- the text has this verdict, which is not that it is complete, against what the window wants of the database
+pub record IsJudgedIn (db : Database) (w : Window) (verdict : Judged) (text : List ℕ) : Type 0 where
+  pub stream : Stream
+  pub there : IsStreamIn db w.stream stream
+  pub lines : List Line
+  pub read : AreLinesOf text lines
+  pub judged : IsVerdict verdict lines (wanted_in db stream w.start w.end) w.end
+  pub not_complete : verdict ≢ Complete
+
+-- this line of the text is none, or the last one, which has no end
+abbrev pub IsBadText : ℕ → List ℕ → Type 0
+IsBadText line text = IsTextFault (BadLine line) text ⊎ IsTextFault (NoEnd line) text
+
+-- the script was not loaded
+abbrev pub IsLoadStatus : Option (List ℕ) → ℕ → ℕ → Status → Type 0
+IsLoadStatus source before now SourceFault = Rose before now
+IsLoadStatus source before now (BadScript line cause) = IfSome source (IsBadScript line cause)
+IsLoadStatus source before now Memory = ⊤
+IsLoadStatus source before now _ = ⊥
+
+-- the window was not read of the database
+abbrev pub IsWindowStatus : Database → Window → Status → Type 0
+IsWindowStatus db w (Refused refusal) = IsRefusedAs db w refusal
+IsWindowStatus db w (RetentionPassed earliest) = IsPassed db w earliest
+IsWindowStatus db w Memory = ⊤
+IsWindowStatus db w _ = ⊥
+
+-- the output was not empty, or its length was not told
+abbrev pub IsLengthStatus : Option (List ℕ) → ℕ → ℕ → Status → Type 0
+IsLengthStatus old before now OutputFault = Rose before now
+IsLengthStatus old before now (OutputNotEmpty n) = (0 < n) × IfSome old (λ bytes. n ≡ length bytes)
+IsLengthStatus old before now _ = ⊥
+
+-- what the text was found to be against what the window wants of the database
+abbrev pub IsAuditStatus : Database → Window → Stream → List ℕ → Status → Type 0
+IsAuditStatus db w s text Ended = IsComplete text (wanted_in db s w.start w.end) w.end
+IsAuditStatus db w s text (Verdict v) = (lines : List Line) × AreLinesOf text lines × IsVerdict v lines (wanted_in db s w.start w.end) w.end × (v ≢ Complete) × (IsComplete text (wanted_in db s w.start w.end) w.end → ⊥)
+IsAuditStatus db w s text (BadOutput line) = IsBadText line text
+IsAuditStatus db w s text Memory = ⊤
+IsAuditStatus db w s text _ = ⊥
+
+-- an answer of a replay
+abbrev pub IsReplayStatus : Status → Type 0
+IsReplayStatus Ended = ⊤
+IsReplayStatus (RetentionPassed earliest) = ⊤
+IsReplayStatus (Refused refusal) = ⊤
+IsReplayStatus OutputFault = ⊤
+IsReplayStatus SourceFault = ⊤
+IsReplayStatus (BadScript line cause) = ⊤
+IsReplayStatus (OutputNotEmpty n) = ⊤
+IsReplayStatus Memory = ⊤
+IsReplayStatus _ = ⊥
+
+-- an answer of a check
+abbrev pub IsCheckStatus : Status → Type 0
+IsCheckStatus Ended = ⊤
+IsCheckStatus (Verdict v) = ⊤
+IsCheckStatus (Refused refusal) = ⊤
+IsCheckStatus OutputFault = ⊤
+IsCheckStatus SourceFault = ⊤
+IsCheckStatus (BadScript line cause) = ⊤
+IsCheckStatus (BadOutput line) = ⊤
+IsCheckStatus Memory = ⊤
+IsCheckStatus _ = ⊥
+
+-- an answer that comes only after the script was loaded
+abbrev pub IsPastScript : Status → Type 0
+IsPastScript SourceFault = ⊥
+IsPastScript (BadScript line cause) = ⊥
+IsPastScript ConsoleFault = ⊥
+IsPastScript (BadWords place) = ⊥
+IsPastScript Memory = ⊥
+IsPastScript _ = ⊤
+
+-- the output was not read
+abbrev pub IsReadStatus : ℕ → ℕ → Status → Type 0
+IsReadStatus before now OutputFault = Rose before now
+IsReadStatus before now Memory = ⊤
+IsReadStatus before now _ = ⊥
+
+-- the database has no such stream
+abbrev pub IsRefusedHere : Database → Window → ReadRefusal → Type 0
+IsRefusedHere db w ReadRefusal.UnknownFunction = HasNoStream db w.stream
+IsRefusedHere db w _ = ⊥
+
+-- the database has the stream, and this line of the text is none, or is the last one and has no end
+pub record IsBadTextIn (db : Database) (w : Window) (line : ℕ) (text : List ℕ) : Type 0 where
+  pub stream : Stream
+  pub there : IsStreamIn db w.stream stream
+  pub bad : IsBadText line text

@@ -1,0 +1,168 @@
+-- Commands by their first word, and the first word of each that is wrong.
+use Rattle.std.proofs.Common.{◌≡◌, ◌≢◌, ◌<◌, ◌≤◌, ℕ, suc, ◌+◌, List, [], ◌∷◌, length, codes, Bool, true, false, drop, Some, None, slice_get, refl, sym, ap, subst, ◌∙◌, arith}
+use Rattle.std.proofs.lemmas.Option.{slice_get-get_or}
+use Rattle.std.proofs.lemmas.List.{take_all}
+use Rattle.cs_types.specs.Stamp.{Spells, stamp_text}
+use Rattle.cs_types.specs.declared.names.Window.{Window}
+use Rattle.cs_generator.specs.Generated.{IsSize}
+use Rattle.cs_words.specs.Numbers.{number_reading}
+use Rattle.cs_words.specs.Place.{IsFirstWrong}
+use Rattle.cs_words.specs.Words.{AreWindow, IsWindow, IsReplay, IsCheck, IsGen, AreWords}
+use Rattle.cs_words.specs.declared.command.Command.TheVariants.{Replay, Check, Gen}
+use Rattle.cs_words.proofs.Samples.{some_stamp, some_window, gen_sample}
+use Rattle.cs_words.proofs.Wrong.{none_some, same_word, within_at, drop_at, first_wrong, wrong_behind, wrong_same, Differs, begins, front_one, front_two, front_three}
+
+head_of : {ws vs : List (List ℕ)} → ws ≡ vs → slice_get ws 0 ≡ slice_get vs 0
+head_of e = ap (λ l. slice_get l 0) e
+
+pub not_check : codes "replay" ≡ codes "check" → ⊥
+not_check e = cc
+
+pub not_gen : codes "replay" ≡ codes "gen" → ⊥
+not_gen e = cc
+
+pub check_not_gen : codes "check" ≡ codes "gen" → ⊥
+check_not_gen e = cc
+
+-- what a command is that begins with its word
+pub some_replay : (all : List (List ℕ)) → AreWords all → slice_get all 0 ≡ Some (codes "replay") → (script journal output : List ℕ) × (w : Window) × IsReplay all script journal output w
+some_replay all (Replay script journal output stream start end, is) e = (script, journal, output, record { stream = stream; start = start; end = end }, is)
+some_replay all (Check script output stream start end, is) e = absurd (not_check (same_word (sym e ∙ head_of is.are)))
+some_replay all (Gen commits text, is) e = absurd (not_gen (same_word (sym e ∙ head_of is.are)))
+
+pub some_check : (all : List (List ℕ)) → AreWords all → slice_get all 0 ≡ Some (codes "check") → (script output : List ℕ) × (w : Window) × IsCheck all script output w
+some_check all (Replay script journal output stream start end, is) e = absurd (not_check (sym (same_word (sym e ∙ head_of is.are))))
+some_check all (Check script output stream start end, is) e = (script, output, record { stream = stream; start = start; end = end }, is)
+some_check all (Gen commits text, is) e = absurd (check_not_gen (same_word (sym e ∙ head_of is.are)))
+
+pub some_gen : (all : List (List ℕ)) → AreWords all → slice_get all 0 ≡ Some (codes "gen") → (commits : ℕ) × (text : Bool) × IsGen all commits text
+some_gen all (Replay script journal output stream start end, is) e = absurd (not_gen (sym (same_word (sym e ∙ head_of is.are))))
+some_gen all (Check script output stream start end, is) e = absurd (check_not_gen (sym (same_word (sym e ∙ head_of is.are))))
+some_gen all (Gen commits text, is) e = (commits, text, is)
+
+-- the words behind those that name files are a window
+replay_window : (s j o : List ℕ) (l : List (List ℕ)) → AreWindow l → AreWords (codes "replay" ∷ s ∷ j ∷ o ∷ l)
+replay_window s j o l is = (Replay s j o is.0.stream is.0.start is.0.end, record { last = l; are = refl; window = is.1 })
+
+window_of_replay : (s j o : List ℕ) (l : List (List ℕ)) → AreWords (codes "replay" ∷ s ∷ j ∷ o ∷ l) → AreWindow l
+window_of_replay s j o l are =
+    let is = some_replay _ are refl in
+    let same : l ≡ is.4.last = ap (λ ws. drop 4 ws) is.4.are in
+    (is.3, subst (λ ws. IsWindow ws is.3) (sym same) is.4.window)
+
+check_window : (s o : List ℕ) (l : List (List ℕ)) → AreWindow l → AreWords (codes "check" ∷ s ∷ o ∷ l)
+check_window s o l is = (Check s o is.0.stream is.0.start is.0.end, record { last = l; are = refl; window = is.1 })
+
+window_of_check : (s o : List ℕ) (l : List (List ℕ)) → AreWords (codes "check" ∷ s ∷ o ∷ l) → AreWindow l
+window_of_check s o l are =
+    let is = some_check _ are refl in
+    let same : l ≡ is.3.last = ap (λ ws. drop 3 ws) is.3.are in
+    (is.2, subst (λ ws. IsWindow ws is.2) (sym same) is.3.window)
+
+pub replay_words : (ws : List (List ℕ)) (s j o : List ℕ) → slice_get ws 0 ≡ Some (codes "replay") → slice_get ws 1 ≡ Some s → slice_get ws 2 ≡ Some j → slice_get ws 3 ≡ Some o
+    → ws ≡ codes "replay" ∷ s ∷ j ∷ o ∷ drop 4 ws
+replay_words ws s j o e0 e1 e2 e3 =
+    drop_at ws 0 _ e0 ∙ ap (λ t. codes "replay" ∷ t) (drop_at ws 1 s e1 ∙ ap (λ t. s ∷ t) (drop_at ws 2 j e2 ∙ ap (λ t. j ∷ t) (drop_at ws 3 o e3)))
+
+pub check_words : (ws : List (List ℕ)) (s o : List ℕ) → slice_get ws 0 ≡ Some (codes "check") → slice_get ws 1 ≡ Some s → slice_get ws 2 ≡ Some o → ws ≡ codes "check" ∷ s ∷ o ∷ drop 3 ws
+check_words ws s o e0 e1 e2 = drop_at ws 0 _ e0 ∙ ap (λ t. codes "check" ∷ t) (drop_at ws 1 s e1 ∙ ap (λ t. s ∷ t) (drop_at ws 2 o e2))
+
+pub wrong_in_replay : (ws : List (List ℕ)) (s j o : List ℕ) (k : ℕ) → slice_get ws 0 ≡ Some (codes "replay") → slice_get ws 1 ≡ Some s → slice_get ws 2 ≡ Some j → slice_get ws 3 ≡ Some o
+    → IsFirstWrong AreWindow (drop 4 ws) k → IsFirstWrong AreWords ws (k + 4)
+wrong_in_replay ws s j o k e0 e1 e2 e3 wrong =
+    let inside = wrong_same (λ l. AreWords (codes "replay" ∷ s ∷ j ∷ o ∷ l)) AreWindow (replay_window s j o) (window_of_replay s j o) (drop 4 ws) k wrong in
+    let whole = wrong_behind AreWords (codes "replay") (s ∷ j ∷ o ∷ drop 4 ws) (suc (suc (suc k)))
+    (wrong_behind (λ l. AreWords (codes "replay" ∷ l)) s (j ∷ o ∷ drop 4 ws) (suc (suc k))
+    (wrong_behind (λ l. AreWords (codes "replay" ∷ s ∷ l)) j (o ∷ drop 4 ws) (suc k)
+    (wrong_behind (λ l. AreWords (codes "replay" ∷ s ∷ j ∷ l)) o (drop 4 ws) k inside))) in
+    let place : suc (suc (suc (suc k))) ≡ k + 4 = omega arith in
+    subst (λ n. IsFirstWrong AreWords ws n) place (subst (λ l. IsFirstWrong AreWords l (suc (suc (suc (suc k))))) (sym (replay_words ws s j o e0 e1 e2 e3)) whole)
+
+pub wrong_in_check : (ws : List (List ℕ)) (s o : List ℕ) (k : ℕ) → slice_get ws 0 ≡ Some (codes "check") → slice_get ws 1 ≡ Some s → slice_get ws 2 ≡ Some o
+    → IsFirstWrong AreWindow (drop 3 ws) k → IsFirstWrong AreWords ws (k + 3)
+wrong_in_check ws s o k e0 e1 e2 wrong =
+    let inside = wrong_same (λ l. AreWords (codes "check" ∷ s ∷ o ∷ l)) AreWindow (check_window s o) (window_of_check s o) (drop 3 ws) k wrong in
+    let whole = wrong_behind AreWords (codes "check") (s ∷ o ∷ drop 3 ws) (suc (suc k))
+    (wrong_behind (λ l. AreWords (codes "check" ∷ l)) s (o ∷ drop 3 ws) (suc k)
+    (wrong_behind (λ l. AreWords (codes "check" ∷ s ∷ l)) o (drop 3 ws) k inside)) in
+    let place : suc (suc (suc k)) ≡ k + 3 = omega arith in
+    subst (λ n. IsFirstWrong AreWords ws n) place (subst (λ l. IsFirstWrong AreWords l (suc (suc (suc k)))) (sym (check_words ws s o e0 e1 e2)) whole)
+
+module _ (spelled : Spells (stamp_text some_stamp) some_stamp) where
+  replay_sample : (s j o : List ℕ) → AreWords (codes "replay" ∷ s ∷ j ∷ o ∷ codes "S" ∷ stamp_text some_stamp ∷ stamp_text some_stamp ∷ [])
+  replay_sample s j o = replay_window s j o _ (some_window spelled)
+
+  check_sample : (s o : List ℕ) → AreWords (codes "check" ∷ s ∷ o ∷ codes "S" ∷ stamp_text some_stamp ∷ stamp_text some_stamp ∷ [])
+  check_sample s o = check_window s o _ (some_window spelled)
+
+  pub replay_one : (ws : List (List ℕ)) → slice_get ws 0 ≡ Some (codes "replay") → slice_get ws 1 ≡ None → IsFirstWrong AreWords ws 1
+  replay_one ws e0 none = first_wrong AreWords ws 1 (omega (arith, within_at ws 0 _ e0)) (begins AreWords _ _ _ (front_one ws _ e0) (replay_sample [] [] []))
+      (λ all are same. let is = some_replay all are (sym (same 0 (omega arith)) ∙ e0) in none_some (sym none ∙ same 1 (omega arith) ∙ ap (λ l. slice_get l 1) is.4.are))
+
+  pub replay_two : (ws : List (List ℕ)) (s : List ℕ) → slice_get ws 0 ≡ Some (codes "replay") → slice_get ws 1 ≡ Some s → slice_get ws 2 ≡ None → IsFirstWrong AreWords ws 2
+  replay_two ws s e0 e1 none = first_wrong AreWords ws 2 (omega (arith, within_at ws 1 _ e1)) (begins AreWords _ _ _ (front_two ws _ s e0 e1) (replay_sample s [] []))
+      (λ all are same. let is = some_replay all are (sym (same 0 (omega arith)) ∙ e0) in none_some (sym none ∙ same 2 (omega arith) ∙ ap (λ l. slice_get l 2) is.4.are))
+
+  pub replay_three : (ws : List (List ℕ)) (s j : List ℕ) → slice_get ws 0 ≡ Some (codes "replay") → slice_get ws 1 ≡ Some s → slice_get ws 2 ≡ Some j → slice_get ws 3 ≡ None → IsFirstWrong AreWords ws 3
+  replay_three ws s j e0 e1 e2 none = first_wrong AreWords ws 3 (omega (arith, within_at ws 2 _ e2)) (begins AreWords _ _ _ (front_three ws _ s j e0 e1 e2) (replay_sample s j []))
+      (λ all are same. let is = some_replay all are (sym (same 0 (omega arith)) ∙ e0) in none_some (sym none ∙ same 3 (omega arith) ∙ ap (λ l. slice_get l 3) is.4.are))
+
+  pub check_one : (ws : List (List ℕ)) → slice_get ws 0 ≡ Some (codes "check") → slice_get ws 1 ≡ None → IsFirstWrong AreWords ws 1
+  check_one ws e0 none = first_wrong AreWords ws 1 (omega (arith, within_at ws 0 _ e0)) (begins AreWords _ _ _ (front_one ws _ e0) (check_sample [] []))
+      (λ all are same. let is = some_check all are (sym (same 0 (omega arith)) ∙ e0) in none_some (sym none ∙ same 1 (omega arith) ∙ ap (λ l. slice_get l 1) is.3.are))
+
+  pub check_two : (ws : List (List ℕ)) (s : List ℕ) → slice_get ws 0 ≡ Some (codes "check") → slice_get ws 1 ≡ Some s → slice_get ws 2 ≡ None → IsFirstWrong AreWords ws 2
+  check_two ws s e0 e1 none = first_wrong AreWords ws 2 (omega (arith, within_at ws 1 _ e1)) (begins AreWords _ _ _ (front_two ws _ s e0 e1) (check_sample s []))
+      (λ all are same. let is = some_check all are (sym (same 0 (omega arith)) ∙ e0) in none_some (sym none ∙ same 2 (omega arith) ∙ ap (λ l. slice_get l 2) is.3.are))
+
+-- no command has this first word
+pub no_command : (ws : List (List ℕ)) → (slice_get ws 0 ≡ Some (codes "replay") → ⊥) → (slice_get ws 0 ≡ Some (codes "check") → ⊥) → (slice_get ws 0 ≡ Some (codes "gen") → ⊥) → IsFirstWrong AreWords ws 0
+no_command ws r c g = first_wrong AreWords ws 0 (omega arith) (begins AreWords [] _ _ refl gen_sample) bad
+  where
+    bad : Differs AreWords ws 0
+    bad all (Replay script journal output stream start end, is) same = r (same 0 (omega arith) ∙ head_of is.are)
+    bad all (Check script output stream start end, is) same = c (same 0 (omega arith) ∙ head_of is.are)
+    bad all (Gen commits text, is) same = g (same 0 (omega arith) ∙ head_of is.are)
+
+-- gen N, with its number
+pub gen_one : (ws : List (List ℕ)) → slice_get ws 0 ≡ Some (codes "gen") → ((text : List ℕ) (n : ℕ) → slice_get ws 1 ≡ Some text → number_reading text ≡ Some n → IsSize n → ⊥) → IsFirstWrong AreWords ws 1
+gen_one ws e0 bad = first_wrong AreWords ws 1 (omega (arith, within_at ws 0 _ e0)) (begins AreWords _ _ _ (front_one ws _ e0) gen_sample)
+    (λ all are same. let is = some_gen all are (sym (same 0 (omega arith)) ∙ e0) in bad is.2.number is.0 (same 1 (omega arith) ∙ ap (λ l. slice_get l 1) is.2.are) is.2.number_is is.2.size)
+
+gen_short : (number : List ℕ) (n : ℕ) → number_reading number ≡ Some n → IsSize n → AreWords (codes "gen" ∷ number ∷ [])
+gen_short number n is size = (Gen n false, record { number = number; are = refl; number_is = is; size = size })
+
+gen_long : (number : List ℕ) (n : ℕ) → number_reading number ≡ Some n → IsSize n → AreWords (codes "gen" ∷ number ∷ codes "--text" ∷ [])
+gen_long number n is size = (Gen n true, record { number = number; are = refl; number_is = is; size = size })
+
+pub gen_two : (ws : List (List ℕ)) (number : List ℕ) (n : ℕ) → slice_get ws 0 ≡ Some (codes "gen") → slice_get ws 1 ≡ Some number → number_reading number ≡ Some n → IsSize n
+    → length ws ≢ 2 → (slice_get ws 2 ≡ Some (codes "--text") → ⊥) → IsFirstWrong AreWords ws 2
+gen_two ws number n e0 e1 is size more bad = first_wrong AreWords ws 2 (omega (arith, within_at ws 1 _ e1)) (begins AreWords _ [] _ (front_two ws _ number e0 e1) (gen_short number n is size)) differs
+  where
+    longer : 2 < length ws
+    longer = omega (arith, more, within_at ws 1 _ e1)
+
+    differs : Differs AreWords ws 2
+    differs all are same = at (some_gen all are (sym (same 0 (omega arith)) ∙ e0))
+      where
+        at : (commits : ℕ) × (text : Bool) × IsGen all commits text → ⊥
+        at (commits, true, r) = bad (same 2 (omega arith) ∙ ap (λ l. slice_get l 2) r.are)
+        at (commits, false, r) = none_some (sym (sym (slice_get-get_or ws 2 [] longer) ∙ same 2 (omega arith) ∙ ap (λ l. slice_get l 2) r.are))
+
+pub gen_three : (ws : List (List ℕ)) (number : List ℕ) (n : ℕ) → slice_get ws 0 ≡ Some (codes "gen") → slice_get ws 1 ≡ Some number → number_reading number ≡ Some n → IsSize n
+    → slice_get ws 2 ≡ Some (codes "--text") → 3 < length ws → IsFirstWrong AreWords ws 3
+gen_three ws number n e0 e1 is size e2 more = first_wrong AreWords ws 3 (omega arith) (begins AreWords _ [] _ (front_three ws _ number _ e0 e1 e2) (gen_long number n is size)) differs
+  where
+    differs : Differs AreWords ws 3
+    differs all are same = at (some_gen all are (sym (same 0 (omega arith)) ∙ e0))
+      where
+        at : (commits : ℕ) × (text : Bool) × IsGen all commits text → ⊥
+        at (commits, true, r) = none_some (sym (sym (slice_get-get_or ws 3 [] more) ∙ same 3 (omega arith) ∙ ap (λ l. slice_get l 3) r.are))
+        at (commits, false, r) = none_some (sym (sym (slice_get-get_or ws 3 [] more) ∙ same 3 (omega arith) ∙ ap (λ l. slice_get l 3) r.are))
+
+pub gen_two_words : (ws : List (List ℕ)) (number : List ℕ) → slice_get ws 0 ≡ Some (codes "gen") → slice_get ws 1 ≡ Some number → length ws ≡ 2 → ws ≡ codes "gen" ∷ number ∷ []
+gen_two_words ws number e0 e1 two = sym (take_all 2 ws (omega (arith, two))) ∙ front_two ws _ number e0 e1
+
+pub gen_three_words : (ws : List (List ℕ)) (number : List ℕ) → slice_get ws 0 ≡ Some (codes "gen") → slice_get ws 1 ≡ Some number → slice_get ws 2 ≡ Some (codes "--text") → length ws ≤ 3
+    → ws ≡ codes "gen" ∷ number ∷ codes "--text" ∷ []
+gen_three_words ws number e0 e1 e2 le = sym (take_all 3 ws le) ∙ front_three ws _ number _ e0 e1 e2

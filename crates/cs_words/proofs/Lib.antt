@@ -1,0 +1,5 @@
+mod Commands
+mod Numerals
+mod Samples
+mod Windows
+mod Wrong

@@ -1,0 +1,33 @@
+use Rattle.std.proofs.Common.{ℕ, sym, drop, map, string_bytes, arith}
+use Rattle.std.proofs.lemmas.List.{length-map}
+use Rattle.cs_types.specs.Stamp.{IsStamp, Spells, stamp_text}
+use Rattle.cs_words.proofs.Samples.{some_stamp}
+use Rattle.cs_words.proofs.Commands.{check_one, check_two, wrong_in_check, check_words}
+use Rattle.cs_words.proofs.Wrong.{within_at}
+use Rattle.cs_words.proofs.reading.read_check.Goals as goal
+
+spelled : ((us : ℕ) → IsStamp us → Spells (stamp_text us) us) → Spells (stamp_text some_stamp) some_stamp
+spelled written = written some_stamp (omega arith, omega arith)
+
+pub returns-in_default-clause-refused : goal.returns-in_default-clause-refused
+returns-in_default-clause-refused c = check_one (spelled c.written_stamps_read_back.ensures.written) _ c.requires c.in_default.ensures
+
+pub returns-in_default-word_at-clause-refused : goal.returns-in_default-word_at-clause-refused
+returns-in_default-word_at-clause-refused c = check_two (spelled c.written_stamps_read_back.ensures.written) _ _ c.requires c.in-Some.ensures c.in_default-word_at.ensures
+
+pub behind-requires : goal.behind-requires
+behind-requires c =
+    let h = within_at _ 2 _ c.in-Some-word_at.ensures in
+    omega (arith, rw length-map at h)
+
+pub returns-in_ok-of-in-Ok-2-clause-read : goal.returns-in_ok-of-in-Ok-2-clause-read
+returns-in_ok-of-in-Ok-2-clause-read c = record {
+  last = drop 3 (map string_bytes c.args.words.now);
+  are = rw (c.in_ok-of-in-Ok.ensures, c.in_ok-of-in-Ok-2.ensures) (check_words _ _ _ c.requires c.in-Some.ensures c.in-Some-word_at.ensures);
+  window = rw (sym c.behind.ensures) c.in-Ok.ensures.read;
+}
+
+pub returns-in-Err-At-clause-refused : goal.returns-in-Err-At-clause-refused
+returns-in-Err-At-clause-refused c =
+    let wrong = rw (c.in-Err-At.field-0-is, c.behind.ensures) at c.in-Err-At.ensures.refused in
+    rw c.in-Err-At.place-is (wrong_in_check _ _ _ c.in-Err-At.place c.requires c.in-Some.ensures c.in-Some-word_at.ensures wrong)
