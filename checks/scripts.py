@@ -230,6 +230,7 @@ VALUE = [
     ("WrongKind", 3, PREAMBLE + commit(1, "t1", insert(1, A=2 ** 64))),
     ("WrongKind", 3, PREAMBLE + commit(1, "t1", insert(1, A=True))),
     ("WrongKind", 3, PREAMBLE + raw('{"at":"%s","commit":{"id":"t1","writes":[{"insert":"T","key":{"K":5.0},"set":{}}]}}' % at(1))),
+    ("WrongKind", 3, PREAMBLE + raw('{"at":"%s","commit":{"id":"t1","writes":[{"insert":"T","key":{"K":-0},"set":{}}]}}' % at(1))),
     ("Range", 3, PREAMBLE + commit(1, "t1", insert(1, A="9223372036854775808"))),
     ("Range", 3, PREAMBLE + commit(1, "t1", insert(1, A=2 ** 63))),
     *(("Range", 2, cell(*it)) for it in (("N", "0.0000000001"), ("N", "-100000000000000000000000000000"), ("D", "2023-02-29"), ("D", "0000-01-01"), ("M", "2024-05-01T00:00:60Z"), ("M", "2024-05-01T00:00:00.0000001Z"))),
