@@ -1,0 +1,38 @@
+//! Entries of the journal and the board that they make: what of a stream was read, and what may be
+//! read next.
+#![tactic(auto)]
+
+mod board;
+mod codec;
+mod cursor;
+mod entry;
+mod fold;
+mod follow;
+mod growing;
+mod judge;
+mod known;
+mod list;
+mod moments;
+mod opening;
+mod plan;
+mod planned;
+mod put;
+mod reading;
+mod ready;
+mod row;
+mod search;
+mod size;
+mod sound;
+mod theory;
+mod turn;
+mod update;
+mod watermark;
+mod writing;
+
+pub use board::Board;
+pub use entry::Entry;
+pub use fold::FoldFault;
+pub use growing::{boards_are_of_entries, boards_stay_consistent, leases_are_no_entries};
+pub use plan::PlanFault;
+pub use planned::Plan;
+pub use row::Row;
