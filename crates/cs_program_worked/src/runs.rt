@@ -130,7 +130,10 @@ fn checked(alloc: Global, output: &str) -> Result<String, Memory> {
 #[test]
 fn an_output_without_its_watermark_is_a_beginning(rt: HostRuntime) -> Result<(), Fail> {
     let told = checked(rt.alloc(), CHANGE)?;
-    assert!(rt; told.as_str().starts_with("11|11 Verdict Prefix -\n|journal|{"));
+    assert!(rt;
+        told.as_str()
+            .starts_with("11|11 Verdict Prefix -\n|journal|{")
+    );
     Ok(())
 }
 

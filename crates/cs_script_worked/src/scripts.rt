@@ -41,14 +41,8 @@ fn fault_of_line(alloc: Global, line: &str) -> Result<String, Memory> {
 #[test]
 fn each_cause_is_told(rt: HostRuntime) -> Result<(), Fail> {
     for (line, want) in [
-        (
-            "[]",
-            "Line(5, NotJson)",
-        ),
-        (
-            "{\"at\":\"2024-05-01T00:00:02Z\"}",
-            "Line(5, Member(",
-        ),
+        ("[]", "Line(5, NotJson)"),
+        ("{\"at\":\"2024-05-01T00:00:02Z\"}", "Line(5, Member("),
         (
             "{\"at\":\"2024-05-01T00:00:02Z\",\"commit\":{\"id\":\"t2\",\"system\":1}}",
             "Line(5, NotBuilt)",
@@ -118,7 +112,8 @@ fn each_cause_is_told(rt: HostRuntime) -> Result<(), Fail> {
 
 #[test]
 fn moments_do_not_fall(rt: HostRuntime) -> Result<(), Fail> {
-    let script = "{\"at\":\"2024-05-01T00:00:02Z\",\"ddl\":\"CREATE TABLE T (K INT64 NOT NULL, A INT64, B STRING(MAX)) PRIMARY KEY (K)\"}\n{\"at\":\"2024-05-01T00:00:00Z\",\"ddl\":\"CREATE CHANGE STREAM S FOR T\"}";
+    let script =
+        "{\"at\":\"2024-05-01T00:00:02Z\",\"ddl\":\"CREATE TABLE T (K INT64 NOT NULL, A INT64, B STRING(MAX)) PRIMARY KEY (K)\"}\n{\"at\":\"2024-05-01T00:00:00Z\",\"ddl\":\"CREATE CHANGE STREAM S FOR T\"}";
     let found = fault(rt.alloc(), script, &[])?;
     assert!(rt; found.as_str() == "Line(2, Order)");
     Ok(())
@@ -143,7 +138,10 @@ fn counts(state: &ServerState) -> (usize, usize, usize) {
 
 /// The counts of that beginning behind a split and an insert.
 fn counts_behind_a_split(alloc: Global) -> Result<(usize, usize, usize), ScriptFault> {
-    let script = script_with(alloc, "{\"at\":\"2024-05-01T00:00:05Z\",\"reshape\":{\"borders\":[{\"key\":{\"K\":\"100\"},\"table\":\"T\"}],\"parts\":[\"S-00000\"],\"stream\":\"S\"}}\r\n\n{\"at\":\"2024-05-01T00:00:05Z\",\"commit\":{\"id\":\"t2\",\"writes\":[{\"insert\":\"T\",\"key\":{\"K\":\"100\"},\"set\":{\"A\":\"5\",\"B\":\"x\"}}]}}")?;
+    let script = script_with(
+        alloc,
+        "{\"at\":\"2024-05-01T00:00:05Z\",\"reshape\":{\"borders\":[{\"key\":{\"K\":\"100\"},\"table\":\"T\"}],\"parts\":[\"S-00000\"],\"stream\":\"S\"}}\r\n\n{\"at\":\"2024-05-01T00:00:05Z\",\"commit\":{\"id\":\"t2\",\"writes\":[{\"insert\":\"T\",\"key\":{\"K\":\"100\"},\"set\":{\"A\":\"5\",\"B\":\"x\"}}]}}",
+    )?;
     let state = loaded(alloc, script.as_str(), &[])?;
     Ok(counts(&state))
 }

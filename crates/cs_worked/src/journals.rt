@@ -177,7 +177,10 @@ fn a_journal_that_failed_is_opened_again(rt: HostRuntime) -> Result<(), Fail> {
 fn stopped(alloc: Global, call: u64, image: u64) -> Result<String, Memory> {
     let mut told = String::new(alloc);
     let framed = frame(alloc, b"b")?;
-    let disk = disk_of(alloc, b"\x01\x01\0\0\0a\0", &[])?.fused(OPENING + call, image);
+    let disk = disk_of(alloc, b"\x01\x01\0\0\0a\0", &[])?.fused(
+        OPENING.saturating_add(call),
+        image,
+    );
     let disk = put_twice(&mut told, alloc, disk, &framed)?;
     told.clear();
     push_opened(&mut told, alloc, disk.after_crash()?)?;

@@ -7,12 +7,21 @@ use cs_types::{StampFault, ValueFault};
 /// Says on standard error why a line is bad.
 pub fn say(rt: &HostRuntime, cause: &LineCause) {
     let said = match cause {
-        LineCause::Member(name) => eprintln!(rt; "spanstream: the member \"{}\" is absent, unknown or of a wrong kind", name.as_str()),
+        LineCause::Member(name) => eprintln!(rt;
+            "spanstream: the member \"{}\" is absent, unknown or of a wrong kind",
+            name.as_str()
+        ),
         LineCause::Syntax(fault) => eprintln!(rt; "spanstream: {fault}"),
         LineCause::Schema(fault) => eprintln!(rt; "spanstream: {fault}"),
         LineCause::Layout(fault) => eprintln!(rt; "spanstream: {fault}"),
-        LineCause::NoTable(name) => eprintln!(rt; "spanstream: there is no table, or for a reshape no stream, of the name {}", name.as_str()),
-        LineCause::NoColumn(name) => eprintln!(rt; "spanstream: the column {} is none of the table's, or a key has not just the table's key columns", name.as_str()),
+        LineCause::NoTable(name) => eprintln!(rt;
+            "spanstream: there is no table, or for a reshape no stream, of the name {}",
+            name.as_str()
+        ),
+        LineCause::NoColumn(name) => eprintln!(rt;
+            "spanstream: the column {} is none of the table's, or a key has not just the table's key columns",
+            name.as_str()
+        ),
         _ => eprintln!(rt; "spanstream: {}", sentence(cause)),
     };
     let _ = said;
@@ -80,7 +89,9 @@ fn right_form(cause: &LineCause) -> Option<&'static str> {
             "{\"at\":\"2024-05-01T00:00:01Z\",\"commit\":{\"id\":\"t1\",\"writes\":[{\"insert\":\"T\",\"key\":{\"K\":\"1\"},\"set\":{\"A\":\"5\"}}]}}",
         ),
         LineCause::Stamp(_) => Some("2024-05-01T00:00:01.500000Z"),
-        LineCause::Syntax(_) => Some("CREATE CHANGE STREAM S FOR T(A, B) OPTIONS (retention_period = '36h')"),
+        LineCause::Syntax(_) => Some(
+            "CREATE CHANGE STREAM S FOR T(A, B) OPTIONS (retention_period = '36h')",
+        ),
         LineCause::Layout(_) => Some(
             "{\"at\":\"2024-05-01T00:00:05Z\",\"reshape\":{\"borders\":[{\"key\":{\"K\":\"100\"},\"table\":\"T\"}],\"parts\":[\"S-00000\"],\"stream\":\"S\"}}",
         ),

@@ -44,8 +44,7 @@ The last line on standard output has the status and its name:
   70                 a file cannot be opened (no line)
 ";
 
-const REPLAY: &str =
-    "usage: spanstream replay SCRIPT JOURNAL OUTPUT STREAM START END
+const REPLAY: &str = "usage: spanstream replay SCRIPT JOURNAL OUTPUT STREAM START END
 
 Reads the script, and writes to the output a line for each change that the change stream
 tells from START to END, in commit order, and then a watermark line for END.
@@ -60,8 +59,7 @@ It ends with 0, 20, 21, 41, 42, 43, 50, 51, 55, 60 or 70.
 example: spanstream replay examples/one-insert.script /tmp/journal /tmp/output S 2024-05-01T00:00:01Z 2024-05-01T00:00:01Z
 ";
 
-const CHECK: &str =
-    "usage: spanstream check SCRIPT OUTPUT STREAM START END
+const CHECK: &str = "usage: spanstream check SCRIPT OUTPUT STREAM START END
 
 Reads the script and an output, and says whether the output is what the change stream tells
 from START to END. Both files must be there, and stay as they are.
@@ -77,8 +75,7 @@ It ends with 0, 11, 21, 41, 42, 43, 50, 51, 56, 60 or 70.
 example: spanstream check examples/one-insert.script /tmp/output S 2024-05-01T00:00:01Z 2024-05-01T00:00:01Z
 ";
 
-const GEN: &str =
-    "usage: spanstream gen N [--text]
+const GEN: &str = "usage: spanstream gen N [--text]
 
 Makes a script of N commits over the tables Singers and Albums, with a change stream G,
 splits and merges of its partitions. N is an even number from 10 to 50,000.
@@ -93,7 +90,11 @@ example: spanstream gen 5000 --text > /tmp/script
 pub fn answer_of(words: &[String]) -> Option<&'static str> {
     match words {
         [word] => alone(word.as_str()),
-        [command, word] => if word.as_str() == "--help" { of_command(command.as_str()) } else { None },
+        [command, word] => if word.as_str() == "--help" {
+            of_command(command.as_str())
+        } else {
+            None
+        },
         _ => None,
     }
 }

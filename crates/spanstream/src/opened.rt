@@ -17,12 +17,20 @@ const NO_PATHS: Paths<'static> = Paths {
 /// Makes the top call, and says on standard error what a status above 0 means.
 pub fn run_on(rt: &HostRuntime, words: &[String]) -> u8 {
     match read_words(rt.alloc(), words) {
-        Ok(Command::Replay {
-            script,
-            journal,
-            output,
-            ..
-        }) => replay(rt, words, script.as_str(), journal.as_str(), output.as_str()),
+        Ok(
+            Command::Replay {
+                script,
+                journal,
+                output,
+                ..
+            },
+        ) => replay(
+            rt,
+            words,
+            script.as_str(),
+            journal.as_str(),
+            output.as_str(),
+        ),
         Ok(Command::Check { script, output, .. }) => {
             check(rt, words, script.as_str(), output.as_str())
         }
