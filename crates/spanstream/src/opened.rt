@@ -1,6 +1,7 @@
 //! The top call over the files that the words name.
 
 use crate::CANNOT_OPEN;
+use crate::progress::{Progress, Shown};
 use crate::told::{Paths, say};
 use cs_device::{Disk, FileDisk, FileSink, FileSource, MemDisk, MemSource, Source};
 use cs_tool::{Command, Status, WordsFault, expected_at, read_words, run};
@@ -53,10 +54,11 @@ fn replay(rt: &HostRuntime, words: &[String], script: &str, journal: &str, outpu
     let Ok(output_file) = open_disk(rt, output) else {
         return cannot_open(rt, output);
     };
-    let mut source = FileSource::new(source);
+    let mut source = shown(rt, source);
     let mut journal_disk = FileDisk::new(journal_file);
     let mut output_disk = FileDisk::new(output_file);
     let status = on_objects(rt, words, &mut source, &mut journal_disk, &mut output_disk);
+    source.end();
     say(rt, &status, &paths)
 }
 
@@ -71,9 +73,10 @@ fn check(rt: &HostRuntime, words: &[String], script: &str, output: &str) -> u8 {
     let Ok(mut journal) = no_disk(rt) else {
         return say(rt, &Status::Memory, &NO_PATHS);
     };
-    let mut source = FileSource::new(source);
+    let mut source = shown(rt, source);
     let mut output_disk = FileDisk::new(output_file);
     let status = on_objects(rt, words, &mut source, &mut journal, &mut output_disk);
+    source.end();
     say(rt, &status, &paths)
 }
 
@@ -102,6 +105,12 @@ fn on_objects<S: Source, J: Disk, O: Disk>(
 ) -> Status {
     let mut console = FileSink::new(io::writer(rt));
     run(rt.alloc(), words, script, journal, output, &mut console)
+}
+
+/// A script that shows on a terminal how far it was read.
+fn shown<'a>(rt: &'a HostRuntime, script: File) -> Shown<'a, FileSource<File>> {
+    let progress = Progress::of(rt, &script);
+    Shown::new(FileSource::new(script), progress)
 }
 
 fn no_disk(rt: &HostRuntime) -> Result<MemDisk, Memory> {
