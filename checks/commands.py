@@ -80,14 +80,13 @@ def check_faults(note, room, is_explained):
     script = room.put("script", SCRIPT)
     output = room.put("output", ALL + watermark(3))
     rest = ["S", at(1), at(3)]
-    for words, missing in (([room.path("none"), output], "none"), ([script, room.path("none")], "none")):
+    for words, missing in (([room.path("none"), output], room.path("none")), ([script, room.path("none")], room.path("none")), ([script, room.at], room.at)):
         ran = room.run(["check", *words, *rest])
-        note(ran.returncode == 70 and ran.stdout == b"" and b"cannot open " + room.path(missing).encode() in ran.stderr, f"check of {words}", str(ran)[:400])
+        note(ran.returncode == 70 and ran.stdout == b"" and b"cannot open " + missing.encode() in ran.stderr, f"check of {words}", str(ran)[:400])
     note(sorted(it for it in room.names()) == ["output", "script"], "check makes no file")
-    # a folder opens as a file, and every read of it fails
-    for words, want in (([room.at, output], b"42 SourceFault\n"), ([script, room.at], b"41 OutputFault\n")):
-        ran = room.run(["check", *words, *rest])
-        note(ran.returncode == int(want[:2]) and ran.stdout == want and is_explained(ran), f"check of {words}", str(ran)[:400])
+    # as a script a folder opens as a file does, and every read of it fails
+    ran = room.run(["check", room.at, output, *rest])
+    note(ran.returncode == 42 and ran.stdout == b"42 SourceFault\n" and is_explained(ran), "check of a folder as a script", str(ran)[:400])
     with open("/dev/full", "wb") as full:
         ran = room.run(["check", script, output, *rest], stdout=full)
     note(ran.returncode == 43 and is_explained(ran), "check with a console whose writes fail", str(ran)[:400])

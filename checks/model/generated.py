@@ -26,7 +26,8 @@ def write_of(i):
     if part == 3:
         return {"delete": table, "key": key}
     column = title if part < 2 else "Note"
-    return {"insert" if part == 0 else "update": table, "key": key, "set": {column: f"n{i}"}}
+    write = {"insert" if part == 0 else "update": table, "key": key, "set": {column: f"n{i}"}}
+    return dict(sorted(write.items()))
 
 
 def script_of(commits):

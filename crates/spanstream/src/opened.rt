@@ -67,7 +67,7 @@ fn check(rt: &HostRuntime, words: &[String], script: &str, output: &str) -> u8 {
     let Ok(source) = File::open(rt, script) else {
         return cannot_open(rt, script);
     };
-    let Ok(output_file) = File::open(rt, output) else {
+    let Some(output_file) = open_file(rt, output) else {
         return cannot_open(rt, output);
     };
     let Ok(mut journal) = no_disk(rt) else {
@@ -116,6 +116,15 @@ fn shown<'a>(rt: &'a HostRuntime, script: File) -> Shown<'a, FileSource<File>> {
 fn no_disk(rt: &HostRuntime) -> Result<MemDisk, Memory> {
     let alloc = rt.alloc();
     MemDisk::new(alloc, Items::new(alloc), 0, 0, Items::new(alloc))
+}
+
+/// A file to read; nothing where it cannot be read, or is a folder.
+fn open_file(rt: &HostRuntime, path: &str) -> Option<File> {
+    let file = File::open(rt, path).ok()?;
+    if file.metadata().ok()?.is_dir() {
+        return None;
+    }
+    Some(file)
 }
 
 /// A file to read and write, made where it is absent.
