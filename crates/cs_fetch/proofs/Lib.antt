@@ -17,4 +17,5 @@ pub mod Told
 pub mod Truth
 pub mod Turning
 pub mod Walking
+pub mod Weighing
 pub mod WellFormed

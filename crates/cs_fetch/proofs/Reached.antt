@@ -36,7 +36,7 @@ fold_more m (y ∷ xs) x = fold_more (marked m y) xs x
 pub marks_more : (known : Known) (xs : List Step) (x : Step) → marks_of known (xs ++ x ∷ []) ≡ marked (marks_of known xs) x
 marks_more known xs x = fold_more (unmarked known) xs x
 
-keep_all : (known : Known) (kept xs ys : List Change) → keep known kept (xs ++ ys) ≡ keep known (keep known kept xs) ys
+pub keep_all : (known : Known) (kept xs ys : List Change) → keep known kept (xs ++ ys) ≡ keep known (keep known kept xs) ys
 keep_all known kept [] ys = refl
 keep_all known kept (x ∷ xs) ys = keep_all known (cond (is_new known kept x) (kept ++ x ∷ []) kept) xs ys
 

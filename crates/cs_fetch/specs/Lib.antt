@@ -8,4 +8,5 @@ pub mod Sets
 pub mod SoFar
 pub mod Taking
 pub mod Turn
+pub mod Weight
 pub mod Went

@@ -14,6 +14,7 @@ use Rattle.cs_link.specs.declared.refusal.ReadRefusal.{ReadRefusal}
 use Rattle.cs_link.specs.Causes.{one_more}
 use Rattle.cs_fetch.specs.Fetch.{Outcome, Goes, Gives, Breaks, Stalls, outcome_of}
 use Rattle.cs_link.specs.Reading.{Read}
+use Rattle.cs_fetch.specs.Weight.{bearers, weight_before_last}
 
 -- where the present READ was told before, it is told now, and is of this kind
 abbrev pub Presents : Option (Option Read) → Option (Option Read) → (Read → Type 0) → Type 0
@@ -32,6 +33,8 @@ pub record HasGiven (args : ReadArgs) (since : ℕ) (steps : List Step) (read : 
 pub record IsMade (args : ReadArgs) (known : Known) (limits : Limits) (since : ℕ) (before now : Option (Option Read)) (outcome : Outcome) : Type 0 where
   pub steps : List Step
   pub comes : outcome_of args known limits steps ≡ outcome
+  -- of the data records of these steps that brought a new change, all but the last weigh no more than the limit
+  pub light : weight_before_last (bearers known steps) ≤ limits.bytes
   pub told : Presents before now (HasGiven args since steps)
 
 -- a READ of exactly these arguments was refused so

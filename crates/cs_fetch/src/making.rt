@@ -1,4 +1,4 @@
-ghost use Rattle.std.specs.Prelude.{◌≡◌, ◌≢◌, ◌⊎◌, ◌≤◌, ℕ, List, Some, Err, IfOk};
+ghost use Rattle.std.specs.Prelude.{◌≡◌, ◌≢◌, ◌⊎◌, ◌<◌, ◌≤◌, ◌^◌, ℕ, List, Some, Err, IfOk};
 ghost use Rattle.cs_link.specs.declared.breach.Breach.{Breach};
 ghost use Rattle.cs_fetch.specs.declared.fault.FetchFault.{FetchFault};
 ghost use Rattle.cs_link.specs.declared.feed.Feed.{Feed};
@@ -58,6 +58,7 @@ pub fn fetch<K: Link>(
     ensures brings_on { IsHonestFor args.now.stream (K.feed link.old args.now.stream) (K.present link.old) → K.paced link.old → end_of args.now ≤ K.moment link.old → IfOk result (BringsOn (pace args.now) known.now) }
 {
     let _start = args.start.us();
+    let _bytes = limits.bytes;
     make(alloc, link, args, known, limits)
 }
 
@@ -70,6 +71,7 @@ fn make<K: Link>(
     limits: &Limits,
 ) -> Result<Batch, FetchFault>
     requires records { (1 ≤ limits.now.records) × (limits.now.records ≤ 8192) }
+    requires bytes { limits.now.bytes < 2 ^ 32 }
     ensures fetched { IsFetched args.now known.now limits.now (K.moment link.old) (K.present link.old) (K.present link.new) (Rose (K.faults link.old) (K.faults link.new)) result }
     ensures no_link_fault { result ≢ Err FetchFault.LinkFault → K.faults link.new ≡ K.faults link.old }
     ensures later { K.faults link.old ≤ K.faults link.new }

@@ -10,7 +10,7 @@ use Rattle.cs_fetch.proofs.making.make.Goals as goal
 
 pub steps-init : goal.steps-init
 steps-init g c = record {
-  kept = kept_none c.args.args.now c.args.known.now c.args.limits.now _ _ _ _ (Ok c.in_ok-open.field-0) c.in_ok-open.field-0 _ _ c.open.ensures.moment c.in_ok-open.ensures.present refl c.requires.records.0 c.new-so_far.ensures c.none-tally.ensures;
+  kept = kept_none c.args.args.now c.args.known.now c.args.limits.now _ _ _ _ (Ok c.in_ok-open.field-0) c.in_ok-open.field-0 _ _ c.open.ensures.moment c.in_ok-open.ensures.present refl c.requires.records.0 c.requires.bytes c.new-so_far.ensures c.none-tally.ensures;
   reads = asked_open _ _ c.args.args.now (Ok c.in_ok-open.field-0) c.in_ok-open.field-0 c.in_ok-open.ensures.reads refl;
   reading = c.in_ok-open.ensures.reading;
   faults = c.in_ok-open.ensures.cause.kept (λ h. cc);
