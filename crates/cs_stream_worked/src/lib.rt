@@ -1,4 +1,4 @@
-//! Worked answers of records and links: copies, groups, what a record tells and what a READ brings, tried on their public calls with ample memory. It has tests alone.
+//! Worked answers of records, links and queries: copies, groups, what a record tells, what a READ brings and why a query is refused, tried on their public calls with ample memory. It has tests alone.
 #![tactic(auto)]
 
 #[cfg(test)]
@@ -9,5 +9,7 @@ mod groups;
 mod links;
 #[cfg(test)]
 mod making;
+#[cfg(test)]
+mod reads;
 #[cfg(test)]
 mod telling;

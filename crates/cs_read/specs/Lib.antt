@@ -1,0 +1,13 @@
+pub mod Captures
+pub mod Cursor
+pub mod Cutting
+pub mod Feed
+pub mod Honest
+pub mod Index
+pub mod Lines
+pub mod Places
+pub mod Query
+pub mod Records
+pub mod Refusals
+pub mod Steps
+pub mod Worked
