@@ -276,9 +276,9 @@ class Maker:
         if roll == 0 and it:
             del it[self.pick(it)]
         elif roll == 1 and it:
-            it[self.pick(it)] = self.pick(JUNK)
+            it[self.pick(it)] = copy.deepcopy(self.pick(JUNK))
         else:
-            it[self.pick(["at", "ddl", "commit", "reshape", "insert", "update", "delete", "set", "key", "tag", "system", "excluded", "colour", "table", ""])] = self.pick(JUNK)
+            it[self.pick(["at", "ddl", "commit", "reshape", "insert", "update", "delete", "set", "key", "tag", "system", "excluded", "colour", "table", ""])] = copy.deepcopy(self.pick(JUNK))
 
     def spelled(self, tree):
         """A JSON text of the tree: members in any order and now and then twice, with blanks and escapes."""
