@@ -1,6 +1,6 @@
 use cs_ddl::parse_query;
 use cs_link::ReadRefusal;
-use cs_read::{ReadFault, read_args};
+use cs_steps::{ReadFault, read_args};
 use cs_schema::{Stream, Watch};
 use cs_types::{CaptureType, Items, Memory, Stamp, Text};
 use std::alloc::Global;

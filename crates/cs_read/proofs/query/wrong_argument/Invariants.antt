@@ -1,9 +1,0 @@
-use Rattle.std.proofs.Common.{◌≡◌, ◌≤◌, ◌-◌, drop, take, length, []}
-use Rattle.cs_read.specs.Query.{wrong_argument}
-use Rattle.cs_read.proofs.query.wrong_argument.Given as goal
-
-abbrev pub invariant-loop-place : goal.invariant-loop-place
-invariant-loop-place l = (l.place ≤ length l.arguments) × (wrong_argument (take l.place l.arguments) (drop l.place l.arguments) ≡ wrong_argument [] l.arguments)
-
-abbrev pub decreases-loop-place : goal.decreases-loop-place
-decreases-loop-place l = length l.arguments - l.place
