@@ -12,3 +12,4 @@ mod SourceSteps
 mod Advancing
 mod Alone
 mod Columns
+mod Named

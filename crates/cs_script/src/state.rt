@@ -1,5 +1,5 @@
 ghost use Rattle.std.specs.Prelude.{◌≡◌, ◌≤◌, ◌++◌, ◌∷◌, false, Ok, Err, Some, None, OnOk, OnErr, IfErr};
-ghost use Rattle.serde_json.specs.View.{view};
+ghost use Rattle.cs_tree.specs.View.{view};
 ghost use Rattle.cs_schema.specs.declared.fault.SchemaFault.{SchemaFault};
 ghost use Rattle.cs_schema.specs.Applying.{first_fault as schema_fault, applied};
 ghost use Rattle.cs_schema.specs.Growing.{Grows};
@@ -27,9 +27,10 @@ use crate::statement::layouts_made;
 use cs_ddl::{Statement, SyntaxFault, parse_ddl};
 use cs_partitions::{Layout, LayoutFault, names_make_tokens};
 use cs_schema::{Catalog, SchemaFault};
+use cs_tree::Tree;
 use cs_txn::{History, Txn, TxnFault, what_fits_lasts};
 use cs_types::{Duplicate, Stamp, Text};
-use serde_json::Value;
+use json::Scratch;
 use std::alloc::Global;
 use std::marker::Model;
 
@@ -110,20 +111,34 @@ impl ServerState {
         ensures refused { IfErr result (λ e. not_memory e → Takes self.old line.now (Err e)) }
         ensures err { OnErr result (self.new ≡ self.old) }
     {
+        let mut scratch = Scratch::new(*self.layouts.allocator());
+        self.take_line(line, &mut scratch)
+    }
+
+    /// The like, in room that is kept from line to line.
+    pub(crate) fn take_line<'a>(
+        &mut self,
+        line: &'a [u8],
+        scratch: &'a mut Scratch,
+    ) -> Result<(), LineCause>
+        ensures taken { OnOk result (Takes self.old line.now (Ok self.new)) }
+        ensures refused { IfErr result (λ e. not_memory e → Takes self.old line.now (Err e)) }
+        ensures err { OnErr result (self.new ≡ self.old) }
+    {
         let alloc = *self.layouts.allocator();
         match line {
             [] => return Ok(()),
             [b'#', ..] => return Ok(()),
             _ => {}
         }
-        match tree_of(alloc, line)? {
+        match tree_of(alloc, line, scratch)? {
             Some(tree) => self.take(alloc, &tree),
             None => Err(LineCause::NotJson),
         }
     }
 
     /// Takes the object that a line is.
-    fn take(&mut self, alloc: Global, tree: &Value) -> Result<(), LineCause>
+    fn take(&mut self, alloc: Global, tree: &Tree<'_>) -> Result<(), LineCause>
         ensures taken { OnOk result (IsTakenTree self.old (view tree.now) (Ok self.new)) }
         ensures refused { IfErr result (λ e. not_memory e → IsTakenTree self.old (view tree.now) (Err e)) }
         ensures err { OnErr result (self.new ≡ self.old) }

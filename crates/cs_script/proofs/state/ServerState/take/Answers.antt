@@ -1,5 +1,5 @@
 use Rattle.std.proofs.Common.{rules, Err}
-use Rattle.serde_json.specs.View.{view}
+use Rattle.cs_tree.specs.View.{view}
 use Rattle.cs_script.specs.Readings.{not_memory}
 use Rattle.cs_script.specs.Takes.{IsTakenTree}
 use Rattle.cs_script.proofs.Doing.{cause_taken}
