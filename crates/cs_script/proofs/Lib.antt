@@ -5,6 +5,7 @@ mod Counting
 mod Keeping
 mod Trees
 mod Doing
+mod Ids
 mod Naming
 mod Pieces
 mod Places

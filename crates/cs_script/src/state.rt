@@ -1,4 +1,4 @@
-ghost use Rattle.std.specs.Prelude.{◌≡◌, ◌≤◌, ◌++◌, ◌∷◌, false, Ok, Err, Some, None, OnOk, OnErr, IfErr};
+ghost use Rattle.std.specs.Prelude.{◌≡◌, ◌≤◌, ◌++◌, ◌∷◌, false, true, Ok, Err, Some, None, OnOk, OnErr, IfErr};
 ghost use Rattle.serde_json.specs.View.{view};
 ghost use Rattle.cs_schema.specs.declared.fault.SchemaFault.{SchemaFault};
 ghost use Rattle.cs_schema.specs.Applying.{first_fault as schema_fault, applied};
@@ -16,6 +16,8 @@ ghost use Rattle.cs_script.specs.Borders.{stream_place};
 ghost use Rattle.cs_script.specs.Database.{no_database, writes_at};
 ghost use Rattle.cs_script.specs.Kept.{IsKept};
 ghost use Rattle.cs_script.specs.Line.{is_back};
+ghost use Rattle.cs_script.specs.Members.{is_id};
+ghost use Rattle.cs_script.specs.Named.{HasId};
 ghost use Rattle.cs_script.specs.Readings.{not_memory};
 ghost use Rattle.cs_script.specs.Takes.{Takes, IsTakenTree, IsDone, HasNames, schema_of, applied_unless, committed, reshaped_in, txn_of};
 
@@ -135,7 +137,8 @@ impl ServerState {
 
     /// Does what a line says at a moment that may follow.
     fn act(&mut self, alloc: Global, at: Stamp, action: Action) -> Result<(), LineCause>
-        requires { is_back self.old.last at ≡ false }
+        requires order { is_back self.old.last at ≡ false }
+        requires id { HasId action }
         ensures done { OnOk result (IsDone self.old at action (Ok self.new)) }
         ensures refused { IfErr result (λ e. not_memory e → IsDone self.old at action (Err e)) }
         ensures err { OnErr result (self.new ≡ self.old) }
@@ -198,7 +201,8 @@ impl ServerState {
 
     /// Commits a transaction.
     fn commit(&mut self, at: Stamp, commit: Commit) -> Result<(), LineCause>
-        requires { is_back self.old.last at ≡ false }
+        requires order { is_back self.old.last at ≡ false }
+        requires id { is_id commit.id ≡ true }
         ensures done { OnOk result (committed self.old (txn_of at commit) ≡ Ok self.new) }
         ensures refused { IfErr result (λ e. not_memory e → committed self.old (txn_of at commit) ≡ Err e) }
         ensures err { OnErr result (self.new ≡ self.old) }
