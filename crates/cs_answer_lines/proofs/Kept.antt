@@ -51,7 +51,7 @@ name_is (b ∷ bs) h =
     and_from (is_letter b && are_name_bytes bs) (nat_le (length (b ∷ bs)) 128) (and_from (is_letter b) (are_name_bytes bs) (letter_is b h.letter) (bytes_are bs each.1)) (le-leb (length (b ∷ bs)) 128 h.most)
 
 id_is : (id : List ℕ) → is_id id ≡ true → is_transaction id ≡ true
-unfolding is_id, is_transaction
+unfolding is_id is_transaction
 id_is id h = h
 
 pub scripts_writable : ScriptsAreWritable

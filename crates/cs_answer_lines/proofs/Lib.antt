@@ -1,4 +1,3 @@
-mod Answers
 mod Captured
 mod Columns
 mod Cuts
@@ -7,3 +6,4 @@ mod Listed
 mod Members
 mod Runs
 mod Transactions
+mod WholeAnswer

@@ -1,6 +1,6 @@
 -- A line can stand for each data record of a part.
 use Rattle.std.proofs.Common.{◌≡◌, ℕ, suc, ◌+◌, ◌*◌, ◌<◌, ◌≤◌, ◌^◌, ◌==◌, Bool, true, nat_lt, List, [], ◌∷◌, length, filter, sum_by, refl, sym, ap, ◌∙◌, subst, arith, Contains, All}
-use Rattle.std.proofs.lemmas.List.{sum_by-le}
+use Rattle.std.proofs.lemmas.List.Sums.{sum_by-le}
 use Rattle.std.proofs.lemmas.List.Elements.{All-nil, All-cons, All-append}
 use Rattle.cs_place.specs.declared.part.Part.{Part}
 use Rattle.cs_place.specs.Part.{is_below, is_held}

@@ -1,14 +1,17 @@
 -- The transaction of a commit that was read has an id.
-use Rattle.std.proofs.Common.{◌≡◌, ℕ, List, Bool, true, false, is_some, if◌then◌else◌, Option, None, Some, Result, Ok, Err, refl, sym, ap, subst, codes}
+use Rattle.std.proofs.Common.{◌≡◌, ℕ, List, Bool, true, false, is_some, if◌then◌else◌, Option, None, Some, Result, Ok, Err, refl, ap, subst, codes}
 use Rattle.serde_json.specs.Data.{Data}
 use Rattle.serde_json.specs.Find.{get, as_str, as_object}
 use Rattle.cs_types.specs.declared.moment.StampFault.{StampFault}
 use Rattle.cs_schema.specs.declared.types.Table.{Table}
+use Rattle.cs_txn.specs.declared.txn.Write.{Write}
 use Rattle.cs_script.specs.declared.action.Action.{Action}
 use Rattle.cs_script.specs.declared.action.Commit.{Commit}
+use Rattle.cs_script.specs.declared.action.Reshape.{Reshape}
 use Rattle.cs_script.specs.declared.action.Word.{Word}
 use Rattle.cs_script.specs.declared.action.Word.TheVariants as words
 use Rattle.cs_script.specs.declared.fault.LineCause.{LineCause}
+use Rattle.cs_script.specs.declared.fault.LineCause.TheVariants.{Member}
 use Rattle.cs_script.specs.Database.{Database}
 use Rattle.cs_script.specs.Line.{word_of, line_members, at_text, built, moment_reading, ddl_of, commit_action, reshape_action, commit_member, reshape_member, action_reading, moment_and_action, object_reading}
 use Rattle.cs_script.specs.Members.{or_bad, of_member, required, where_it_is, is_id, id_value, tag_of, no_others}
@@ -54,16 +57,13 @@ commit_read : (tables : List Table) (d : Data) (c : Commit) → commit_reading t
 unfolding commit_reading
 commit_read tables d c h = by (is_some (as_object d)) h
   where
-    parts : Reading (List ℕ) → Reading Commit
-    parts r = commit_of (both r (both (writes_member tables (get (codes "writes") d)) (both (tag_of (get (codes "tag") d)) (no_others commit_members d))))
-
-    of : (r : Reading (List ℕ)) → (s : Reading _) → commit_of (both r s) ≡ Ok c → r ≡ Ok c.id
+    of : (r : Reading (List ℕ)) (s : Reading (List Write × (List ℕ × Unit {0}))) → commit_of (both r s) ≡ Ok c → r ≡ Ok c.id
     of (Ok id) (Ok p) k = ap (λ (x : Commit). Ok x.id) (same_read _ c k)
     of (Ok id) (Err f) k = absurd (never f c k)
     of (Err e) (Ok p) k = absurd (never e c k)
     of (Err e) (Err f) k = absurd (never _ c k)
 
-    by : (b : Bool) → (if b then commit_of (both (required id_value (codes "id") d) (both (writes_member tables (get (codes "writes") d)) (both (tag_of (get (codes "tag") d)) (no_others commit_members d)))) else Err _) ≡ Ok c → is_id c.id ≡ true
+    by : (b : Bool) → (if b then commit_of (both (required id_value (codes "id") d) (both (writes_member tables (get (codes "writes") d)) (both (tag_of (get (codes "tag") d)) (no_others commit_members d)))) else Err (Member (codes "commit"))) ≡ Ok c → is_id c.id ≡ true
     by true k = id_read (codes "id") d c.id (of (required id_value (codes "id") d) (both (writes_member tables (get (codes "writes") d)) (both (tag_of (get (codes "tag") d)) (no_others commit_members d))) k)
     by false k = absurd (never _ c k)
 
@@ -84,7 +84,7 @@ action_read db words.Commit d a h = by (get (codes "commit") d) h
         within (Err f) s k = absurd (never f a k)
 action_read db words.Reshape d a h = by (reshape_member db (get (codes "reshape") d)) h
   where
-    by : (r : Reading _) → reshape_action r ≡ Ok a → HasId a
+    by : (r : Reading Reshape) → reshape_action r ≡ Ok a → HasId a
     by (Ok x) k = subst HasId (same_read _ a k) tt
     by (Err e) k = absurd (never e a k)
 

@@ -1,7 +1,8 @@
 -- A line can stand for each step of an answer.
-use Rattle.std.proofs.Common.{◌≡◌, ℕ, suc, ◌+◌, ◌-◌, ◌≤◌, ◌&&◌, Bool, true, false, cond, nat_le, nat_lt, List, [], ◌∷◌, ◌++◌, map, length, take, filter, Option, None, Some, refl, sym, ap, ◌∙◌, arith, All, Contains, length-map}
+use Rattle.std.proofs.Common.{◌≡◌, ℕ, suc, ◌+◌, ◌-◌, ◌≤◌, ◌&&◌, Bool, true, false, cond, nat_le, nat_lt, List, [], ◌∷◌, ◌++◌, map, length, take, filter, Option, None, Some, refl, sym, ap, ◌∙◌, arith, All, Contains}
 use Rattle.std.specs.Int.{is_in_range}
-use Rattle.std.proofs.lemmas.List.Elements.{All-nil, All-cons, All-head, All-tail, All-append, All-take, All-filter, All-contains, Contains-get_or}
+use Rattle.std.proofs.lemmas.List.{length-map}
+use Rattle.std.proofs.lemmas.List.Elements.{All-nil, All-cons, All-head, All-tail, All-append, All-take, All-filter, All-contains}
 use Rattle.cs_types.specs.Names.{is_among}
 use Rattle.cs_place.specs.declared.part.Part.{Part}
 use Rattle.cs_place.specs.Part.{is_below, is_live}
@@ -64,13 +65,13 @@ length_low (p ∷ ps) = length_put p (by_low ps) ∙ ap suc (length_low ps)
 
 few_children : (parts : List Part) (part : Part) → length parts ≤ 65536 → length (children_of parts part) ≤ 65536
 few_children parts part few =
-    let mapped : length (map child_of (by_low (parts_after part.token parts))) ≡ length (by_low (parts_after part.token parts)) = length-map child_of (by_low (parts_after part.token parts)) in
+    let mapped : length (map child_of (by_low (parts_after part.token parts))) ≡ length (by_low (parts_after part.token parts)) = length-map (by_low (parts_after part.token parts)) child_of in
     omega (arith, mapped, length_low (parts_after part.token parts), filter_shorter (λ (p : Part). is_among part.token p.parents) parts, few)
 
 few_live : (parts : List Part) (moment : ℕ) → length parts ≤ 65536 → length (live_at parts moment) ≤ 65536
 few_live parts moment few =
     let live = filter (λ q. is_live q moment) parts in
-    let mapped : length (map first_of (by_low live)) ≡ length (by_low live) = length-map first_of (by_low live) in
+    let mapped : length (map first_of (by_low live)) ≡ length (by_low live) = length-map (by_low live) first_of in
     omega (arith, mapped, length_low live, filter_shorter (λ q. is_live q moment) parts, few)
 
 -- ---- the whole answer
