@@ -3,7 +3,6 @@ use Rattle.std.proofs.Common.{◌≡◌, ℕ, Bool, true, false, cond, nat_le, L
 use Rattle.std.specs.List.{cons_option}
 use Rattle.std.specs.Option.{option_or}
 use Rattle.std.proofs.lemmas.List.Elements.{All-contains, All-head, All-tail}
-use Rattle.cs_types.specs.declared.change.Change.{Change}
 use Rattle.cs_types.specs.Exact.{same_name-is}
 use Rattle.cs_types.specs.Names.{is_same}
 use Rattle.cs_records.specs.declared.captured.Captured.{Captured}

@@ -1,5 +1,5 @@
 -- The columns of a record by their names, and names of which no two are the same.
-use Rattle.std.proofs.Common.{◌≡◌, ◌≢◌, ◌⊎◌, ℕ, suc, Bool, true, false, cond, List, [], ◌∷◌, ◌++◌, Option, Some, None, ⊎_elim, inl, inr, refl, sym, ap, ◌∙◌, subst, arith, true≢false, Contains, AllPairs}
+use Rattle.std.proofs.Common.{◌≡◌, ◌≢◌, ◌⊎◌, ℕ, suc, Bool, true, false, cond, List, [], ◌∷◌, ◌++◌, Option, Some, None, ⊎_elim, refl, sym, ap, ◌∙◌, subst, arith, true≢false, Contains, AllPairs}
 use Rattle.std.specs.Option.{option_or}
 use Rattle.cs_types.specs.declared.cells.Cell.{Cell}
 use Rattle.cs_types.specs.declared.column_type.ColumnType.{ColumnType}

@@ -1,5 +1,5 @@
 -- What a script has made is kept, and a record can name its tables and its transactions.
-use Rattle.std.proofs.Common.{◌≡◌, ◌+◌, ◌≤◌, ◌&&◌, ◌||◌, ◌==◌, ℕ, Bool, true, false, cond, nat_le, List, [], ◌∷◌, length, filter, refl, sym, ap, ◌∙◌, subst, arith, All, true≢false}
+use Rattle.std.proofs.Common.{◌≡◌, ◌+◌, ◌≤◌, ◌&&◌, ◌==◌, ℕ, Bool, true, false, cond, nat_le, List, [], ◌∷◌, length, filter, refl, sym, subst, arith, true≢false}
 use Rattle.std.proofs.lemmas.Bool.{and_from, le-leb}
 use Rattle.std.proofs.lemmas.List.Elements.{All-weaker, recursion_from_All}
 use Rattle.std.specs.Char.{is_ascii_alphabetic}
@@ -7,7 +7,7 @@ use Rattle.std.specs.List.{AllByRecursion}
 use Rattle.cs_ddl.specs.Lex.{is_word_byte}
 use Rattle.cs_schema.specs.declared.types.Table.{Table}
 use Rattle.cs_txn.specs.declared.txn.Modification.{Modification}
-use Rattle.cs_json_reading.specs.Texts.{is_transaction, is_letter, is_name_byte, are_name_bytes, begins_as_name, is_name}
+use Rattle.cs_json_reading.specs.Texts.{is_transaction, is_letter, is_name_byte, are_name_bytes, is_name}
 use Rattle.cs_script.specs.Database.{writes_at}
 use Rattle.cs_script.specs.Members.{is_id}
 use Rattle.cs_script.specs.Named.{IsTableName}

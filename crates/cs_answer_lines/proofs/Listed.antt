@@ -1,6 +1,6 @@
 -- A line can stand for the record of captured changes that are alike.
-use Rattle.std.proofs.Common.{◌≡◌, ◌≢◌, ◌<◌, ◌≤◌, ◌^◌, ◌||◌, ℕ, Bool, true, false, List, [], ◌∷◌, map, Some, ⊎_elim, refl, sym, ap, ◌∙◌, subst, Contains, All, AllPairs}
-use Rattle.std.proofs.lemmas.List.Elements.{All-contains, All-map, All-head}
+use Rattle.std.proofs.Common.{◌≡◌, ◌≢◌, ◌<◌, ◌^◌, ◌||◌, ℕ, Bool, true, false, List, [], ◌∷◌, map, ⊎_elim, refl, sym, ap, ◌∙◌, subst, Contains, All}
+use Rattle.std.proofs.lemmas.List.Elements.{All-contains, All-map}
 use Rattle.cs_types.specs.declared.cells.Cell.{Cell}
 use Rattle.cs_types.specs.Names.{is_among, columns_of}
 use Rattle.cs_types.specs.Value.{IsOfType}
@@ -14,7 +14,7 @@ use Rattle.cs_json_reading.specs.Standing.{OfColumn, IsListed, IsListedMod, CanS
 use Rattle.cs_json_reading.specs.Texts.{is_transaction, is_name}
 use Rattle.cs_steps.specs.Records.{Count, record_of}
 use Rattle.cs_answer_lines.proofs.Columns.{found, has_column, apart}
-use Rattle.cs_answer_lines.proofs.Members.{in_head, in_tail, in_cons, all_in}
+use Rattle.cs_answer_lines.proofs.Members.{in_head, in_cons, all_in}
 use Rattle.cs_answer_lines.proofs.Runs.{alike_itself}
 
 -- a captured change whose names a line can have, with the columns of its cells and their types

@@ -1,5 +1,5 @@
 -- A line can stand for each step of an answer.
-use Rattle.std.proofs.Common.{◌≡◌, ℕ, suc, ◌+◌, ◌-◌, ◌≤◌, ◌&&◌, Bool, true, false, cond, nat_le, nat_lt, List, [], ◌∷◌, ◌++◌, map, length, take, filter, Option, None, Some, refl, sym, ap, ◌∙◌, arith, All, Contains}
+use Rattle.std.proofs.Common.{◌≡◌, ℕ, suc, ◌+◌, ◌-◌, ◌≤◌, Bool, true, false, cond, nat_le, nat_lt, List, [], ◌∷◌, ◌++◌, map, length, take, filter, Option, None, Some, refl, ap, ◌∙◌, arith, All}
 use Rattle.std.specs.Int.{is_in_range}
 use Rattle.std.proofs.lemmas.List.{length-map}
 use Rattle.std.proofs.lemmas.List.Elements.{All-nil, All-cons, All-head, All-tail, All-append, All-take, All-filter, All-contains}
@@ -12,11 +12,10 @@ use Rattle.cs_records.specs.declared.records.DataRecord.{DataRecord}
 use Rattle.cs_records.specs.declared.records.Record.{Record}
 use Rattle.cs_link.specs.declared.reading.Closing.{Closing}
 use Rattle.cs_link.specs.declared.reading.Step.{Step}
-use Rattle.cs_schema.specs.declared.types.Stream.{Stream}
 use Rattle.cs_json_reading.specs.Standing.{CanStandFor}
 use Rattle.cs_steps.specs.Captures.{CapturedIsCommitted, captured_items}
 use Rattle.cs_steps.specs.Records.{data_records}
-use Rattle.cs_steps.specs.Steps.{between, beat_at, paced, listed_from, child_groups, child_steps, put_by_low, by_low, child_of, first_of, children_of, live_at, has_ended, closing, ending, cut_off, Asked, top_of, records_for}
+use Rattle.cs_steps.specs.Steps.{beat_at, paced, listed_from, child_groups, child_steps, put_by_low, by_low, child_of, first_of, children_of, live_at, has_ended, closing, ending, cut_off, top_of, records_for}
 use Rattle.cs_answer_lines.specs.StepLine.{CanStandAs}
 use Rattle.cs_answer_lines.specs.Writable.{PartCanStand, StartCanStand, EachCanStand}
 use Rattle.cs_answer_lines.proofs.Captured.{CanBeTold, good_items}

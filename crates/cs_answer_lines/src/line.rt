@@ -7,6 +7,11 @@ use cs_link::{Closing, Step};
 use cs_types::{Memory, Stamp, Text};
 use std::alloc::Global;
 
+/// The line of an answer that gave all that was asked for.
+const FINISHED: &str = "{\"closing\":\"FINISHED\"}";
+/// The line of an answer behind which there is more.
+const CUT: &str = "{\"closing\":\"CUT\"}";
+
 /// The one line of a step, without its end: that of its record, as `record_to_line` of cs_json
 /// writes it, or a line that closes the answer, which for a READ that caught up tells the present
 /// moment. A line can stand for the step: where it is a record, that is what `record_to_line`
@@ -26,9 +31,9 @@ fn closing_line(alloc: Global, closing: Closing) -> Result<Text, Memory>
     ensures { IfOk result (λ t. t ≡ closing_text closing) }
 {
     match closing {
-        Closing::Finished => Text::of(alloc, "{\"closing\":\"FINISHED\"}"),
+        Closing::Finished => Text::of(alloc, FINISHED),
         Closing::CaughtUp(moment) => caught_up_line(alloc, moment),
-        Closing::Cut => Text::of(alloc, "{\"closing\":\"CUT\"}"),
+        Closing::Cut => Text::of(alloc, CUT),
     }
 }
 
