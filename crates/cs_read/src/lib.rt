@@ -3,6 +3,7 @@
 
 mod children;
 mod content;
+mod laying;
 mod reading;
 mod records;
 mod spans;
