@@ -1,7 +1,7 @@
 -- A READ that no refusal meets is one that its part accepts.
 use Rattle.std.proofs.Common.{◌≡◌, ℕ, ◌-◌, ◌*◌, ◌<◌, ◌≤◌, Bool, true, false, ◌||◌, cond, nat_le, nat_lt, List, Option, None, Some, refl, sym, ◌∙◌, arith}
 use Rattle.std.specs.Option.{option_or, unwrap_or}
-use Rattle.std.proofs.lemmas.Bool.{or_left_false, ltb-true, ltb-false, leb-true, leb-false}
+use Rattle.std.proofs.lemmas.Bool.{ltb-false, leb-false}
 use Rattle.cs_place.specs.declared.part.Part.{Part}
 use Rattle.cs_place.specs.Part.{IsBefore}
 use Rattle.cs_partitions.specs.Reshape.{part_named}

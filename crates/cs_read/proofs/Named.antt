@@ -10,29 +10,32 @@ use Rattle.cs_read.proofs.Members.{in_head, in_tail}
 same_index : (a b : ℕ) → Some a ≡ Some b → a ≡ b
 same_index a b e = cc
 
+abbrev IsFoundAt : List ℕ → List Part → ℕ → Type 0
+IsFoundAt token parts i = (p : Part) × IsAt parts i p × (part_named token parts ≡ Some p)
+
+some_behind : (token : List ℕ) (q : Part) (qs : List Part) (i : ℕ) (o : Option ℕ) → index_named token qs ≡ o → next_index o ≡ Some i → ((j : ℕ) → index_named token qs ≡ Some j → IsFoundAt token qs j) → (p : Part) × IsAt (q ∷ qs) i p × (part_named token qs ≡ Some p)
+some_behind token q qs i None s k f = cc
+some_behind token q qs i (Some j) s k f = let r = f j s in (r.0, subst (λ n. IsAt (q ∷ qs) n r.0) (same_index (suc j) i k) (omega (arith, r.1.0), r.1.1), r.2)
+
 pub index_some : (token : List ℕ) (parts : List Part) (i : ℕ) → index_named token parts ≡ Some i → (p : Part) × IsAt parts i p × (part_named token parts ≡ Some p)
 index_some token [] i e = cc
-index_some token (q ∷ qs) i e = by (is_same q.token token) e
+index_some token (q ∷ qs) i e = by (is_same q.token token) e (λ j s. index_some token qs j s)
   where
-    next : (o : Option ℕ) → index_named token qs ≡ o → next_index o ≡ Some i → ((j : ℕ) → index_named token qs ≡ Some j → (p : Part) × IsAt qs j p × (part_named token qs ≡ Some p)) → (p : Part) × IsAt (q ∷ qs) i p × (part_named token qs ≡ Some p)
-    next None s k f = cc
-    next (Some j) s k f = let r = f j s in (r.0, subst (λ n. IsAt (q ∷ qs) n r.0) (same_index (suc j) i k) (omega (arith, r.1.0), r.1.1), r.2)
+    by : (b : Bool) → cond b (Some 0) (next_index (index_named token qs)) ≡ Some i → ((j : ℕ) → index_named token qs ≡ Some j → IsFoundAt token qs j) → (p : Part) × IsAt (q ∷ qs) i p × (cond b (Some q) (part_named token qs) ≡ Some p)
+    by true k f = (q, subst (λ n. IsAt (q ∷ qs) n q) (same_index 0 i k) (omega arith, refl), refl)
+    by false k f = some_behind token q qs i (index_named token qs) refl k f
 
-    by : (b : Bool) → cond b (Some 0) (next_index (index_named token qs)) ≡ Some i → (p : Part) × IsAt (q ∷ qs) i p × (cond b (Some q) (part_named token qs) ≡ Some p)
-    by true k = (q, subst (λ n. IsAt (q ∷ qs) n q) (same_index 0 i k) (omega arith, refl), refl)
-    by false k = next (index_named token qs) refl k (λ j s. index_some token qs j s)
+none_behind : (o : Option ℕ) → next_index o ≡ None → o ≡ None
+none_behind None k = refl
+none_behind (Some j) k = cc
 
 pub index_none : (token : List ℕ) (parts : List Part) → index_named token parts ≡ None → part_named token parts ≡ None
 index_none token [] e = refl
-index_none token (q ∷ qs) e = by (is_same q.token token) e
+index_none token (q ∷ qs) e = by (is_same q.token token) e (index_none token qs)
   where
-    next : (o : Option ℕ) → index_named token qs ≡ o → next_index o ≡ None → index_named token qs ≡ None
-    next None s k = s
-    next (Some j) s k = cc
-
-    by : (b : Bool) → cond b (Some 0) (next_index (index_named token qs)) ≡ None → cond b (Some q) (part_named token qs) ≡ None
-    by true k = cc
-    by false k = index_none token qs (next (index_named token qs) refl k)
+    by : (b : Bool) → cond b (Some 0) (next_index (index_named token qs)) ≡ None → (index_named token qs ≡ None → part_named token qs ≡ None) → cond b (Some q) (part_named token qs) ≡ None
+    by true k f = cc
+    by false k f = f (none_behind (index_named token qs) k)
 
 pub named_some : (token : List ℕ) (parts : List Part) (p : Part) → part_named token parts ≡ Some p → Contains parts p × (p.token ≡ token)
 named_some token [] p h = cc

@@ -1,5 +1,5 @@
 -- What READs of a stream speak of, and how a READ is answered step by step from the stream's index.
-use Rattle.std.specs.Prelude.{◌≡◌, ℕ, ◌<◌, ◌≤◌, List, [], ◌∷◌, length, flat_map, All, Option, None, Some, Result, Ok, Err, slice_get, IfSome, ⊤}
+use Rattle.std.specs.Prelude.{◌≡◌, ℕ, ◌+◌, ◌<◌, ◌≤◌, List, [], ◌∷◌, length, flat_map, All, Option, None, Some, Result, Ok, Err, slice_get, IfSome, ⊤}
 use Rattle.std.specs.List.Sorted.{IsNonDecreasingBy}
 use Rattle.cs_place.specs.declared.part.Part.{Part}
 use Rattle.cs_records.specs.declared.captured.Captured.{Captured}
@@ -28,12 +28,12 @@ part_at parts None = None
 part_at parts (Some place) = slice_get parts place
 
 -- places of data records, and of their changes, stand for the records
-pub record AreRecords (items : List Captured) (records : List DataRecord) (changes : List ℕ) (places : List RecordPlace) : Type 0 where
-  pub records : flat_map (record_at items changes) places ≡ records
+pub record AreRecords (items : List Captured) (all : List DataRecord) (changes : List ℕ) (places : List RecordPlace) : Type 0 where
+  pub records : flat_map (record_at items changes) places ≡ all
   pub some : All (λ p. 0 < p.count) places
   pub within : All (λ p. p.first + p.count ≤ length changes) places
   pub there : All (λ k. k < length items) changes
-  pub stamps : HaveStamps places records
+  pub stamps : HaveStamps places all
   pub order : IsNonDecreasingBy (λ p. p.stamp) places
 
 -- what the steps of a READ speak of

@@ -16,7 +16,7 @@ use cs_link::{Closing, ReadArgs, Step};
 use cs_partitions::Layout;
 use cs_place::Part;
 use cs_records::Child;
-use cs_steps::{Cursor, ReadFault};
+use cs_steps::{Cursor, ReadFault, steps_are_those_of_the_records};
 use cs_types::{Items, Memory, Stamp, Token};
 use std::alloc::Global;
 
@@ -138,6 +138,7 @@ fn of_part(
     ensures reading { IfOk result (λ r. IsReading of.now r) }
     ensures steps { IfOk result (λ r. steps_ahead of.now r ≡ steps_of_part of.now.parts of.now.items (asked_of args.now moment part.now)) }
 {
+    let _steps = steps_are_those_of_the_records();
     let span = span_of(args, moment);
     let children = children_where(alloc, has_ended(&span, part), of.layout(), place)?;
     let lists = list_count(children.as_slice());
