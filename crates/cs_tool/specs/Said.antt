@@ -3,9 +3,13 @@ use Rattle.std.specs.Prelude.{◌≡◌, ℕ, List, Bool, true, false, Option, s
 use Rattle.cs_generator.specs.Generated.{script_text}
 use Rattle.cs_ddl.specs.declared.tree.ReadQuery.{ReadQuery}
 use Rattle.cs_tool.specs.Database.{OnScript}
+use Rattle.cs_tool.specs.Run.{OnCommand, IsSaid}
 use Rattle.cs_tool.specs.Gen.{IsSummary, IsGenStatus}
 use Rattle.cs_tool.specs.Show.{AreShown, IsShowFault, IsCutOff, shown_text}
 use Rattle.cs_tool.specs.Status.{status_line}
+use Rattle.cs_words.specs.declared.command.Command.{Command}
+use Rattle.cs_words.specs.declared.command.Command.TheVariants.{Show}
+use Rattle.cs_link.specs.declared.reading.Step.{Step}
 use Rattle.cs_tool.specs.declared.status.Status.{Status}
 use Rattle.cs_tool.specs.declared.status.Status.TheVariants.{Ended, Memory}
 use Rattle.cs_tool.specs.declared.top.Said.{Said}
@@ -46,3 +50,14 @@ abbrev pub IsShown : Option (List ℕ) → ℕ → ℕ → ReadQuery → ℕ →
 IsShown source before now query moment (Steps steps) = OnScript source (AreShown query moment steps)
 IsShown source before now query moment (Line status) = IsShowFault source before now query moment status
 IsShown source before now query moment (Text text) = ⊥
+
+-- the steps are those that a command asks for
+abbrev pub AreStepsOf : Option (List ℕ) → List Step → Command → Type 0
+AreStepsOf source steps (Show script moment query) = OnScript source (AreShown query moment steps)
+AreStepsOf source steps _ = ⊥
+
+-- what there is to say is what the words ask for
+abbrev pub IsDue : Option (List ℕ) → List (List ℕ) → Said → Type 0
+IsDue source words (Line status) = IsSaid source words (status_line status) status
+IsDue source words (Text text) = IsSaid source words (string_bytes text) Ended
+IsDue source words (Steps steps) = OnCommand words (AreStepsOf source steps)

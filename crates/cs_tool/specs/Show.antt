@@ -55,6 +55,12 @@ IsReadFault db query moment (Refused refusal) = IsReadRefused query moment refus
 IsReadFault db query moment Memory = ⊤
 IsReadFault db query moment _ = ⊥
 
+-- the status of a refusal
+abbrev pub IsStatusOf : ReadRefusal → Status → Type 0
+IsStatusOf refusal (RetentionPassed earliest) = refusal ≡ ReadRefusal.StartTooOld earliest
+IsStatusOf refusal (Refused told) = (refusal ≡ told) × IsNotTooOld told
+IsStatusOf refusal _ = ⊥
+
 -- the steps are those of the READ, which is not refused
 abbrev pub AreShown : ReadQuery → ℕ → List Step → Database → Type 0
 AreShown query moment steps db = IsRead query moment db × (steps ≡ answer_steps db query moment)
