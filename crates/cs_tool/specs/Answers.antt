@@ -111,6 +111,16 @@ IsCheckStatus (BadOutput line) = ⊤
 IsCheckStatus Memory = ⊤
 IsCheckStatus _ = ⊥
 
+-- an answer of a show
+abbrev pub IsShowStatus : Status → Type 0
+IsShowStatus Ended = ⊤
+IsShowStatus (RetentionPassed earliest) = ⊤
+IsShowStatus (Refused refusal) = ⊤
+IsShowStatus SourceFault = ⊤
+IsShowStatus (BadScript line cause) = ⊤
+IsShowStatus Memory = ⊤
+IsShowStatus _ = ⊥
+
 -- an answer that comes only after the script was loaded
 abbrev pub IsPastScript : Status → Type 0
 IsPastScript SourceFault = ⊥

@@ -4,13 +4,18 @@ use Rattle.std.proofs.lemmas.Option.{slice_get-get_or}
 use Rattle.std.proofs.lemmas.List.{take_all}
 use Rattle.cs_types.specs.Stamp.{Spells, stamp_text}
 use Rattle.cs_types.specs.declared.names.Window.{Window}
+use Rattle.cs_ddl.specs.Grammars.{queries}
+use Rattle.cs_ddl.specs.Text.{IsTextOf}
+use Rattle.cs_ddl.specs.declared.tree.ReadQuery.{ReadQuery}
 use Rattle.cs_generator.specs.Generated.{IsSize}
 use Rattle.cs_words.specs.Numbers.{number_reading}
 use Rattle.cs_words.specs.Place.{IsFirstWrong}
-use Rattle.cs_words.specs.Words.{AreWindow, IsWindow, IsReplay, IsCheck, IsGen, AreWords}
-use Rattle.cs_words.specs.declared.command.Command.TheVariants.{Replay, Check, Gen}
-use Rattle.cs_words.proofs.Samples.{some_stamp, some_window, gen_sample}
-use Rattle.cs_words.proofs.Wrong.{none_some, same_word, within_at, drop_at, first_wrong, wrong_behind, wrong_same, Differs, begins, front_one, front_two, front_three}
+use Rattle.cs_words.specs.Words.{AreWindow, IsWindow, IsReplay, IsCheck, IsShow, IsGen, AreWords, IsWordsFault, IsNoQueryAt}
+use Rattle.cs_words.specs.declared.command.Command.TheVariants.{Replay, Check, Show, Gen}
+use Rattle.cs_words.specs.declared.command.WordsFault.{WordsFault}
+use Rattle.cs_words.specs.declared.command.WordsFault.TheVariants.{At, Memory}
+use Rattle.cs_words.proofs.Samples.{some_stamp, some_window, gen_sample, some_query, some_query_text, query_sample}
+use Rattle.cs_words.proofs.Wrong.{none_some, same_word, within_at, drop_at, first_wrong, wrong_behind, wrong_same, Differs, begins, front_one, front_two, front_three, front_four}
 
 head_of : {ws vs : List (List ℕ)} → ws ≡ vs → slice_get ws 0 ≡ slice_get vs 0
 head_of e = ap (λ l. slice_get l 0) e
@@ -24,20 +29,38 @@ not_gen e = cc
 pub check_not_gen : codes "check" ≡ codes "gen" → ⊥
 check_not_gen e = cc
 
+pub show_not_replay : codes "show" ≡ codes "replay" → ⊥
+show_not_replay e = cc
+
+pub show_not_check : codes "show" ≡ codes "check" → ⊥
+show_not_check e = cc
+
+pub show_not_gen : codes "show" ≡ codes "gen" → ⊥
+show_not_gen e = cc
+
 -- what a command is that begins with its word
 pub some_replay : (all : List (List ℕ)) → AreWords all → slice_get all 0 ≡ Some (codes "replay") → (script journal output : List ℕ) × (w : Window) × IsReplay all script journal output w
 some_replay all (Replay script journal output stream start end, is) e = (script, journal, output, record { stream = stream; start = start; end = end }, is)
 some_replay all (Check script output stream start end, is) e = absurd (not_check (same_word (sym e ∙ head_of is.are)))
+some_replay all (Show script moment query, is) e = absurd (show_not_replay (sym (same_word (sym e ∙ head_of is.are))))
 some_replay all (Gen commits text, is) e = absurd (not_gen (same_word (sym e ∙ head_of is.are)))
 
 pub some_check : (all : List (List ℕ)) → AreWords all → slice_get all 0 ≡ Some (codes "check") → (script output : List ℕ) × (w : Window) × IsCheck all script output w
 some_check all (Replay script journal output stream start end, is) e = absurd (not_check (sym (same_word (sym e ∙ head_of is.are))))
 some_check all (Check script output stream start end, is) e = (script, output, record { stream = stream; start = start; end = end }, is)
+some_check all (Show script moment query, is) e = absurd (show_not_check (sym (same_word (sym e ∙ head_of is.are))))
 some_check all (Gen commits text, is) e = absurd (check_not_gen (same_word (sym e ∙ head_of is.are)))
+
+pub some_show : (all : List (List ℕ)) → AreWords all → slice_get all 0 ≡ Some (codes "show") → (script : List ℕ) × (moment : ℕ) × (query : ReadQuery) × IsShow all script moment query
+some_show all (Replay script journal output stream start end, is) e = absurd (show_not_replay (same_word (sym e ∙ head_of is.are)))
+some_show all (Check script output stream start end, is) e = absurd (show_not_check (same_word (sym e ∙ head_of is.are)))
+some_show all (Show script moment query, is) e = (script, moment, query, is)
+some_show all (Gen commits text, is) e = absurd (show_not_gen (same_word (sym e ∙ head_of is.are)))
 
 pub some_gen : (all : List (List ℕ)) → AreWords all → slice_get all 0 ≡ Some (codes "gen") → (commits : ℕ) × (text : Bool) × IsGen all commits text
 some_gen all (Replay script journal output stream start end, is) e = absurd (not_gen (sym (same_word (sym e ∙ head_of is.are))))
 some_gen all (Check script output stream start end, is) e = absurd (check_not_gen (sym (same_word (sym e ∙ head_of is.are))))
+some_gen all (Show script moment query, is) e = absurd (show_not_gen (sym (same_word (sym e ∙ head_of is.are))))
 some_gen all (Gen commits text, is) e = (commits, text, is)
 
 -- the words behind those that name files are a window
@@ -115,13 +138,51 @@ module _ (spelled : Spells (stamp_text some_stamp) some_stamp) where
   check_two ws s e0 e1 none = first_wrong AreWords ws 2 (omega (arith, within_at ws 1 _ e1)) (begins AreWords _ _ _ (front_two ws _ s e0 e1) (check_sample s []))
       (λ all are same. let is = some_check all are (sym (same 0 (omega arith)) ∙ e0) in none_some (sym none ∙ same 2 (omega arith) ∙ ap (λ l. slice_get l 2) is.3.are))
 
+-- show SCRIPT MOMENT QUERY
+show_words : (s m q : List ℕ) (moment : ℕ) (query : ReadQuery) → Spells m moment → IsTextOf queries q query → AreWords (codes "show" ∷ s ∷ m ∷ q ∷ [])
+show_words s m q moment query is-moment is-query = (Show s moment query, record { moment_text = m; query_text = q; are = refl; moment_is = is-moment; query_is = is-query })
+
+module _ (spelled : Spells (stamp_text some_stamp) some_stamp) where
+  show_sample : (s : List ℕ) → AreWords (codes "show" ∷ s ∷ stamp_text some_stamp ∷ some_query_text ∷ [])
+  show_sample s = show_words s _ _ _ _ spelled query_sample
+
+  pub show_one : (ws : List (List ℕ)) → slice_get ws 0 ≡ Some (codes "show") → slice_get ws 1 ≡ None → IsFirstWrong AreWords ws 1
+  show_one ws e0 none = first_wrong AreWords ws 1 (omega (arith, within_at ws 0 _ e0)) (begins AreWords _ _ _ (front_one ws _ e0) (show_sample []))
+      (λ all are same. let is = some_show all are (sym (same 0 (omega arith)) ∙ e0) in none_some (sym none ∙ same 1 (omega arith) ∙ ap (λ l. slice_get l 1) is.3.are))
+
+  pub show_two : (ws : List (List ℕ)) (s : List ℕ) → slice_get ws 0 ≡ Some (codes "show") → slice_get ws 1 ≡ Some s → ((text : List ℕ) (at : ℕ) → slice_get ws 2 ≡ Some text → Spells text at → ⊥) → IsFirstWrong AreWords ws 2
+  show_two ws s e0 e1 bad = first_wrong AreWords ws 2 (omega (arith, within_at ws 1 _ e1)) (begins AreWords _ _ _ (front_two ws _ s e0 e1) (show_sample s))
+      (λ all are same. let is = some_show all are (sym (same 0 (omega arith)) ∙ e0) in bad is.3.moment_text is.1 (same 2 (omega arith) ∙ ap (λ l. slice_get l 2) is.3.are) is.3.moment_is)
+
+show_three : (ws : List (List ℕ)) (s m : List ℕ) (moment : ℕ) → slice_get ws 0 ≡ Some (codes "show") → slice_get ws 1 ≡ Some s → slice_get ws 2 ≡ Some m → Spells m moment
+    → ((text : List ℕ) (query : ReadQuery) → slice_get ws 3 ≡ Some text → IsTextOf queries text query → ⊥) → IsFirstWrong AreWords ws 3
+show_three ws s m moment e0 e1 e2 is-moment bad = first_wrong AreWords ws 3 (omega (arith, within_at ws 2 _ e2)) (begins AreWords _ _ _ (front_three ws _ s m e0 e1 e2) (show_words s m some_query_text moment some_query is-moment query_sample))
+    (λ all are same. let is = some_show all are (sym (same 0 (omega arith)) ∙ e0) in bad is.3.query_text is.2 (same 3 (omega arith) ∙ ap (λ l. slice_get l 3) is.3.are) is.3.query_is)
+
+pub show_fault : (ws : List (List ℕ)) (s m : List ℕ) (moment : ℕ) (fault : WordsFault) → slice_get ws 0 ≡ Some (codes "show") → slice_get ws 1 ≡ Some s → slice_get ws 2 ≡ Some m → Spells m moment
+    → IsNoQueryAt ws 3 fault → IsWordsFault ws fault
+show_fault ws s m moment (At place) e0 e1 e2 is-moment bad = subst (λ (n : ℕ). IsFirstWrong AreWords ws n) (sym bad.0) (show_three ws s m moment e0 e1 e2 is-moment bad.1)
+show_fault ws s m moment Memory e0 e1 e2 is-moment bad = tt
+
+pub show_four : (ws : List (List ℕ)) (s m q : List ℕ) (moment : ℕ) (query : ReadQuery) → slice_get ws 0 ≡ Some (codes "show") → slice_get ws 1 ≡ Some s → slice_get ws 2 ≡ Some m → slice_get ws 3 ≡ Some q
+    → Spells m moment → IsTextOf queries q query → 4 < length ws → IsFirstWrong AreWords ws 4
+show_four ws s m q moment query e0 e1 e2 e3 is-moment is-query more = first_wrong AreWords ws 4 (omega arith) (begins AreWords _ [] _ (front_four ws _ s m q e0 e1 e2 e3) (show_words s m q moment query is-moment is-query))
+    (λ all are same.
+    let is = some_show all are (sym (same 0 (omega arith)) ∙ e0) in
+    none_some (sym (sym (slice_get-get_or ws 4 [] more) ∙ same 4 (omega arith) ∙ ap (λ l. slice_get l 4) is.3.are)))
+
+pub show_four_words : (ws : List (List ℕ)) (s m q : List ℕ) → slice_get ws 0 ≡ Some (codes "show") → slice_get ws 1 ≡ Some s → slice_get ws 2 ≡ Some m → slice_get ws 3 ≡ Some q → length ws ≤ 4
+    → ws ≡ codes "show" ∷ s ∷ m ∷ q ∷ []
+show_four_words ws s m q e0 e1 e2 e3 le = sym (take_all 4 ws le) ∙ front_four ws _ s m q e0 e1 e2 e3
+
 -- no command has this first word
-pub no_command : (ws : List (List ℕ)) → (slice_get ws 0 ≡ Some (codes "replay") → ⊥) → (slice_get ws 0 ≡ Some (codes "check") → ⊥) → (slice_get ws 0 ≡ Some (codes "gen") → ⊥) → IsFirstWrong AreWords ws 0
-no_command ws r c g = first_wrong AreWords ws 0 (omega arith) (begins AreWords [] _ _ refl gen_sample) bad
+pub no_command : (ws : List (List ℕ)) → (slice_get ws 0 ≡ Some (codes "replay") → ⊥) → (slice_get ws 0 ≡ Some (codes "check") → ⊥) → (slice_get ws 0 ≡ Some (codes "show") → ⊥) → (slice_get ws 0 ≡ Some (codes "gen") → ⊥) → IsFirstWrong AreWords ws 0
+no_command ws r c s g = first_wrong AreWords ws 0 (omega arith) (begins AreWords [] _ _ refl gen_sample) bad
   where
     bad : Differs AreWords ws 0
     bad all (Replay script journal output stream start end, is) same = r (same 0 (omega arith) ∙ head_of is.are)
     bad all (Check script output stream start end, is) same = c (same 0 (omega arith) ∙ head_of is.are)
+    bad all (Show script moment query, is) same = s (same 0 (omega arith) ∙ head_of is.are)
     bad all (Gen commits text, is) same = g (same 0 (omega arith) ∙ head_of is.are)
 
 -- gen N, with its number

@@ -79,3 +79,6 @@ front_two ws a b e0 e1 = take_next ws 1 b e1 ∙ ap (λ t. t ++ b ∷ []) (front
 
 pub front_three : (ws : List (List ℕ)) (a b c : List ℕ) → slice_get ws 0 ≡ Some a → slice_get ws 1 ≡ Some b → slice_get ws 2 ≡ Some c → take 3 ws ≡ a ∷ b ∷ c ∷ []
 front_three ws a b c e0 e1 e2 = take_next ws 2 c e2 ∙ ap (λ t. t ++ c ∷ []) (front_two ws a b e0 e1)
+
+pub front_four : (ws : List (List ℕ)) (a b c d : List ℕ) → slice_get ws 0 ≡ Some a → slice_get ws 1 ≡ Some b → slice_get ws 2 ≡ Some c → slice_get ws 3 ≡ Some d → take 4 ws ≡ a ∷ b ∷ c ∷ d ∷ []
+front_four ws a b c d e0 e1 e2 e3 = take_next ws 3 d e3 ∙ ap (λ t. t ++ d ∷ []) (front_three ws a b c e0 e1 e2)

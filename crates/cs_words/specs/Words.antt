@@ -1,12 +1,15 @@
 -- The words of the commands, this project's own.
-use Rattle.std.specs.Prelude.{◌≡◌, ◌≤◌, ℕ, List, [], ◌∷◌, Bool, true, false, codes, Some, ⊤}
+use Rattle.std.specs.Prelude.{◌≡◌, ◌≤◌, ℕ, List, [], ◌∷◌, Bool, true, false, codes, slice_get, Some, ⊤}
 use Rattle.cs_types.specs.Stamp.{Spells}
 use Rattle.cs_types.specs.declared.names.Window.{Window}
+use Rattle.cs_ddl.specs.declared.tree.ReadQuery.{ReadQuery}
+use Rattle.cs_ddl.specs.Grammars.{queries}
+use Rattle.cs_ddl.specs.Text.{IsTextOf}
 use Rattle.cs_generator.specs.Generated.{IsSize}
 use Rattle.cs_words.specs.Numbers.{is_name, number_reading}
 use Rattle.cs_words.specs.Place.{IsFirstWrong}
 use Rattle.cs_words.specs.declared.command.Command.{Command}
-use Rattle.cs_words.specs.declared.command.Command.TheVariants.{Replay, Check, Gen}
+use Rattle.cs_words.specs.declared.command.Command.TheVariants.{Replay, Check, Show, Gen}
 use Rattle.cs_words.specs.declared.command.WordsFault.{WordsFault}
 use Rattle.cs_words.specs.declared.command.WordsFault.TheVariants.{At, Memory}
 
@@ -32,6 +35,14 @@ pub record IsCheck (words : List (List ℕ)) (script output : List ℕ) (w : Win
   pub are : words ≡ codes "check" ∷ script ∷ output ∷ last
   pub window : IsWindow last w
 
+-- show SCRIPT MOMENT QUERY: a text of a stamp, and a text of a query
+pub record IsShow (words : List (List ℕ)) (script : List ℕ) (moment : ℕ) (query : ReadQuery) : Type 0 where
+  pub moment_text : List ℕ
+  pub query_text : List ℕ
+  pub are : words ≡ codes "show" ∷ script ∷ moment_text ∷ query_text ∷ []
+  pub moment_is : Spells moment_text moment
+  pub query_is : IsTextOf queries query_text query
+
 -- the option that asks for the script itself
 abbrev pub text_option : Bool → List (List ℕ)
 text_option true = codes "--text" ∷ []
@@ -48,6 +59,7 @@ pub record IsGen (words : List (List ℕ)) (commits : ℕ) (text : Bool) : Type 
 abbrev pub IsCommand : List (List ℕ) → Command → Type 0
 IsCommand words (Replay script journal output stream start end) = IsReplay words script journal output (record { stream = stream; start = start; end = end })
 IsCommand words (Check script output stream start end) = IsCheck words script output (record { stream = stream; start = start; end = end })
+IsCommand words (Show script moment query) = IsShow words script moment query
 IsCommand words (Gen commits text) = IsGen words commits text
 
 -- some command has these words
@@ -74,3 +86,12 @@ AreWindow words = (w : Window) × IsWindow words w
 abbrev pub IsUpTo : ℕ → WordsFault → Type 0
 IsUpTo most (At place) = place ≤ most
 IsUpTo most Memory = ⊤
+
+-- the word at a place is a text of this query
+abbrev pub IsQueryAt : List (List ℕ) → ℕ → ReadQuery → Type 0
+IsQueryAt words at query = (text : List ℕ) × (slice_get words at ≡ Some text) × IsTextOf queries text query
+
+-- it is none, and this is its place
+abbrev pub IsNoQueryAt : List (List ℕ) → ℕ → WordsFault → Type 0
+IsNoQueryAt words at (At place) = (place ≡ at) × ((text : List ℕ) (query : ReadQuery) → slice_get words at ≡ Some text → IsTextOf queries text query → ⊥)
+IsNoQueryAt words at Memory = ⊤

@@ -1,3 +1,4 @@
+use cs_ddl::ReadQuery;
 use cs_types::{Memory, Stamp, Text};
 
 /// What a command line asks for, with a field for each word behind the command's and for each
@@ -20,6 +21,12 @@ pub enum Command {
         stream: Text,
         start: Stamp,
         end: Stamp,
+    },
+    /// show SCRIPT MOMENT QUERY: the present moment, and the query that is taken at it.
+    Show {
+        script: Text,
+        moment: Stamp,
+        query: ReadQuery,
     },
     /// gen N [--text]: the number of commits, and whether the script itself is asked for.
     Gen {

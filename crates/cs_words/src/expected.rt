@@ -11,10 +11,13 @@ pub fn expected_at(first: &str, place: usize) -> &'static str
     if first == "check" {
         return expected_in_check(place);
     }
+    if first == "show" {
+        return expected_in_show(place);
+    }
     if first == "gen" {
         return expected_in_gen(place);
     }
-    "a command: replay, check or gen"
+    "a command: replay, check, show or gen"
 }
 
 fn expected_in_replay(place: usize) -> &'static str
@@ -40,6 +43,18 @@ fn expected_in_check(place: usize) -> &'static str
         3 => STREAM,
         4 => START,
         5 => END,
+        _ => "no further word",
+    }
+}
+
+fn expected_in_show(place: usize) -> &'static str
+    ensures { 0 < length result.now }
+{
+    match place {
+        1 => "SCRIPT, the path of a file to read",
+        2 => "MOMENT, a stamp such as 2024-05-01T00:00:00Z",
+        3 =>
+            "QUERY, one word such as \"SELECT ChangeRecord FROM READ_S('2024-05-01T00:00:01Z', NULL, NULL, 10000)\"",
         _ => "no further word",
     }
 }

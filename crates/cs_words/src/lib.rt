@@ -4,6 +4,7 @@
 mod command;
 mod expected;
 mod numbers;
+mod query;
 mod reading;
 mod window;
 

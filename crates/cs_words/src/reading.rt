@@ -4,7 +4,8 @@ ghost use Rattle.cs_words.specs.Numbers.{number_reading};
 ghost use Rattle.cs_words.specs.Words.{IsCommand, IsWordsFault};
 
 use crate::numbers::number_of;
-use crate::window::{read_window, word_at};
+use crate::query::query_word;
+use crate::window::{read_window, stamp_word, word_at};
 use crate::{Command, WordsFault};
 use cs_generator::is_size;
 use cs_types::{Text, Window, written_stamps_read_back};
@@ -23,6 +24,9 @@ pub fn read_words(alloc: Global, words: &[String]) -> Result<Command, WordsFault
     }
     if is_word(words, 0, "check") {
         return read_check(alloc, words);
+    }
+    if is_word(words, 0, "show") {
+        return read_show(alloc, words);
     }
     if is_word(words, 0, "gen") {
         return read_gen(words);
@@ -90,6 +94,32 @@ fn behind(words: &[String], at: usize) -> &[String]
     ensures { map string_bytes result.now ≡ drop at (map string_bytes words.now) }
 {
     &words[at..]
+}
+
+fn read_show(alloc: Global, words: &[String]) -> Result<Command, WordsFault>
+    requires { slice_get (map string_bytes words.now) 0 ≡ Some (codes "show") }
+    ensures read { IfOk result (IsCommand (map string_bytes words.now)) }
+    ensures refused { IfErr result (IsWordsFault (map string_bytes words.now)) }
+{
+    written_stamps_read_back();
+    let Some(script) = word_at(words, 1) else {
+        return Err(WordsFault::At(1));
+    };
+    let Some(moment) = stamp_word(words, 2) else {
+        return Err(WordsFault::At(2));
+    };
+    let query = match query_word(alloc, words, 3) {
+        Ok(query) => query,
+        Err(fault) => return Err(fault),
+    };
+    if words.len() > 4 {
+        return Err(WordsFault::At(4));
+    }
+    Ok(Command::Show {
+        script: Text::of(alloc, script)?,
+        moment,
+        query,
+    })
 }
 
 fn read_gen(words: &[String]) -> Result<Command, WordsFault>

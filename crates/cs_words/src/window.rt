@@ -51,7 +51,7 @@ pub(crate) fn word_at(words: &[String], at: usize) -> Option<&str>
 }
 
 /// The stamp that the word at a place spells.
-fn stamp_word(words: &[String], at: usize) -> Option<Stamp>
+pub(crate) fn stamp_word(words: &[String], at: usize) -> Option<Stamp>
     ensures { MatchOption result
         ((text : List ℕ) (s : ℕ) → slice_get (map string_bytes words.now) at ≡ Some text → Spells text s → ⊥)
         (λ s. (text : List ℕ) × (slice_get (map string_bytes words.now) at ≡ Some text) × Spells text s) }

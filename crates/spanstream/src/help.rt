@@ -11,14 +11,15 @@ const HELP: &str =
 usage:
   spanstream replay SCRIPT JOURNAL OUTPUT STREAM START END
   spanstream check SCRIPT OUTPUT STREAM START END
+  spanstream show SCRIPT MOMENT QUERY
   spanstream gen N [--text]
   spanstream COMMAND --help
   spanstream --help
   spanstream --version
 
 replay writes a line for each change with START <= stamp <= END to the output, in commit
-order, and then a watermark line for END. check judges such an output. gen makes a
-realistic script of N commits.
+order, and then a watermark line for END. check judges such an output. show prints what the
+server answers to a query at a moment. gen makes a realistic script of N commits.
   SCRIPT   a file to read, at most 67,108,864 bytes: a JSON line for each statement,
            commit or reshape of partitions (docs/FORMATS.md has the form)
   JOURNAL  a file, made where it is absent; it stays as it is
@@ -26,12 +27,17 @@ realistic script of N commits.
   STREAM   the name of a change stream of the script
   START    a stamp such as 2024-05-01T00:00:00Z, with up to six digits of a second's fraction
   END      a stamp that is not below START
+  MOMENT   a stamp: the present moment for the server
+  QUERY    one word, a query as spanstream show --help has it
 
 The last line on standard output has the status and its name:
-   0 Ended           all is done: of replay and check, the output is complete
+   0 Ended           all is done: of replay and check, the output is complete; of show, each
+                     line of the answer stands above
   11 Verdict V       check: the output is not complete, and V says what it is
-  20 RetentionPassed T  START is before T, the earliest moment that the stream keeps at END
-  21 Refused KIND    the script has no such stream, or it was created after START
+  20 RetentionPassed T  START is before T, the earliest moment that the stream keeps at END, or
+                     in show at MOMENT
+  21 Refused KIND    the script has no such stream, or it was created after START; in show, the
+                     query is refused, and KIND says why
   41 OutputFault     a call on the output failed
   42 SourceFault     a read of the script failed
   43 ConsoleFault    the write to standard output failed (no line)
@@ -75,6 +81,29 @@ It ends with 0, 11, 21, 41, 42, 43, 50, 51, 56, 60 or 70.
 example: spanstream check examples/one-insert.script /tmp/output S 2024-05-01T00:00:01Z 2024-05-01T00:00:01Z
 ";
 
+const SHOW: &str = "usage: spanstream show SCRIPT MOMENT QUERY
+
+Reads the script, and prints what the server answers to the query when it is MOMENT: a JSON line
+for each record (data, heartbeat or child partitions), a line that closes the answer, and then
+0 Ended.
+  SCRIPT   a file to read, a JSON line for each statement, commit or reshape
+  MOMENT   a stamp such as 2024-05-01T00:00:20Z: the present moment for the server
+  QUERY    one word (put it between double quotes):
+           SELECT ChangeRecord FROM READ_stream(start_timestamp, end_timestamp, partition_token,
+           heartbeat_milliseconds)
+           with the arguments in this order, or each as name => value
+             start_timestamp         a stamp between single quotes, not before the stream's creation
+                                     and not before MOMENT less its retention_period
+             end_timestamp           a stamp between single quotes, or NULL
+             partition_token         a text such as 'S-00000', or NULL: the partitions are listed
+             heartbeat_milliseconds  a number from 1000 to 300000
+The answer closes with FINISHED, with CAUGHT_UP where MOMENT is before the end, or with CUT
+behind 8,192 records.
+It ends with 0, 20, 21, 42, 43, 50, 51, 60 or 70.
+
+example: spanstream show examples/one-insert.script 2024-05-01T00:00:01Z \"SELECT ChangeRecord FROM READ_S('2024-05-01T00:00:01Z', '2024-05-01T00:00:20Z', 'S-00000', 10000)\"
+";
+
 const GEN: &str = "usage: spanstream gen N [--text]
 
 Makes a script of N commits over the tables Singers and Albums, with a change stream G,
@@ -116,6 +145,9 @@ fn of_command(command: &str) -> Option<&'static str> {
     }
     if command == "check" {
         return Some(CHECK);
+    }
+    if command == "show" {
+        return Some(SHOW);
     }
     if command == "gen" {
         return Some(GEN);

@@ -3,11 +3,15 @@
 use crate::CANNOT_OPEN;
 use crate::progress::{Progress, Shown};
 use crate::told::{Paths, say};
+use cs_ddl::parse_query;
 use cs_device::{Disk, FileDisk, FileSink, FileSource, MemDisk, MemSource, Source};
 use cs_tool::{Command, Status, WordsFault, expected_at, read_words, run};
 use cs_types::{Items, Memory};
 use std::fs::{File, OpenOptions};
 use std::io;
+
+/// The place of the query among the words of show.
+const QUERY: usize = 3;
 
 /// No files are named.
 const NO_PATHS: Paths<'static> = Paths {
@@ -35,6 +39,7 @@ pub fn run_on(rt: &HostRuntime, words: &[String]) -> u8 {
         Ok(Command::Check { script, output, .. }) => {
             check(rt, words, script.as_str(), output.as_str())
         }
+        Ok(Command::Show { script, .. }) => show(rt, words, script.as_str()),
         Ok(Command::Gen { .. }) => without_files(rt, words),
         Err(fault) => {
             hint(rt, words, fault);
@@ -76,6 +81,20 @@ fn check(rt: &HostRuntime, words: &[String], script: &str, output: &str) -> u8 {
     let mut source = shown(rt, source);
     let mut output_disk = FileDisk::new(output_file);
     let status = on_objects(rt, words, &mut source, &mut journal, &mut output_disk);
+    source.end();
+    say(rt, &status, &paths)
+}
+
+fn show(rt: &HostRuntime, words: &[String], script: &str) -> u8 {
+    let paths = Paths { script, output: "" };
+    let Ok(source) = File::open(rt, script) else {
+        return cannot_open(rt, script);
+    };
+    let (Ok(mut journal), Ok(mut output)) = (no_disk(rt), no_disk(rt)) else {
+        return say(rt, &Status::Memory, &NO_PATHS);
+    };
+    let mut source = shown(rt, source);
+    let status = on_objects(rt, words, &mut source, &mut journal, &mut output);
     source.end();
     say(rt, &status, &paths)
 }
@@ -151,6 +170,21 @@ fn hint(rt: &HostRuntime, words: &[String], fault: WordsFault) {
         None => eprintln!(rt; "spanstream: word {place} is missing; expected {expected}"),
     };
     let _ = told;
+    if first == "show" && place == QUERY {
+        if let Some(query) = words.get(place) {
+            query_hint(rt, query.as_str());
+        }
+    }
+}
+
+/// The byte of a query with which none goes on, and one that is right.
+fn query_hint(rt: &HostRuntime, query: &str) {
+    if let Err(fault) = parse_query(rt.alloc(), query.as_bytes()) {
+        let _ = eprintln!(rt; "spanstream: QUERY: {fault}");
+        let _ = eprintln!(rt;
+            "spanstream: a right form: SELECT ChangeRecord FROM READ_S('2024-05-01T00:00:01Z', '2024-05-01T00:00:20Z', 'S-00000', 10000)"
+        );
+    }
 }
 
 fn cannot_open(rt: &HostRuntime, word: &str) -> u8 {
