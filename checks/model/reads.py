@@ -97,6 +97,17 @@ def part_of(layout, query):
     return part
 
 
+# ---- lines
+
+
+def line(tree):
+    return json.dumps(tree, ensure_ascii=False, sort_keys=True, separators=(",", ":"))
+
+
+def record_line(kind, record):
+    return line({it: [record] if it == kind else [] for it in KINDS})
+
+
 # ---- data records
 
 
@@ -191,7 +202,7 @@ def data_record(state, stream, group, numbers):
 
 @functools.lru_cache(maxsize=64)
 def data_records(state, stream):
-    """By each part's token its data records, as pairs of a stamp and a record."""
+    """By each part's token its data records, as pairs of a stamp and a line."""
     found = {part.token: [] for part in state.layouts[stream].parts}
     for changes in transactions(state, stream):
         parts = sorted({it.part for it in changes}, key=lambda part: part.low)
@@ -200,20 +211,12 @@ def data_records(state, stream):
         for part, of_part in zip(parts, grouped):
             for group in of_part:
                 numbers = (sequence, group is of_part[-1], records, len(parts))
-                found[part.token].append((group[0].item.at, data_record(state, stream, group, numbers)))
+                found[part.token].append((group[0].item.at, record_line("data_change_record", data_record(state, stream, group, numbers))))
                 sequence += 1
     return found
 
 
 # ---- answers
-
-
-def line(tree):
-    return json.dumps(tree, ensure_ascii=False, sort_keys=True, separators=(",", ":"))
-
-
-def record_line(kind, record):
-    return line({it: [record] if it == kind else [] for it in KINDS})
 
 
 def heartbeat(at):
@@ -240,10 +243,10 @@ def in_order(parts):
 def paced(records, start, last, gap):
     """The records with heartbeats where for so long there was none."""
     lines, before = [], start
-    for stamp, record in records:
+    for stamp, told in records:
         if stamp >= before + gap:
             lines.append(heartbeat(stamp - 1))
-        lines.append(record_line("data_change_record", record))
+        lines.append(told)
         before = stamp
     return lines + [heartbeat(last)] if last >= before + gap else lines
 
