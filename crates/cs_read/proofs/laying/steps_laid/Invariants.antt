@@ -8,7 +8,7 @@ abbrev pub invariant-loop-place : goal.invariant-loop-place
 invariant-loop-place l = record {
   within : l.cursor.end ≤ length l.records;
   gap : 1 ≤ l.cursor.gap;
-  laid : (s : Source) → IsCursor s l.fn.cursor → HaveStamps l.records s.records → LaidOut s (steps_left s l.fn.cursor) l.cursor l.steps
+  laid : (s : Source) → IsCursor s l.fn.cursor → HaveStamps l.records s.records → LaidOut s (steps_left s l.fn.cursor) l.cursor l.steps;
 }
 
 abbrev pub decreases-loop-place : goal.decreases-loop-place
