@@ -1,25 +1,29 @@
-"""The examples of docs/FORMATS.md: its script with its output, a line for each cause, outputs with their verdicts, and
-what a command prints."""
+"""The examples of docs/FORMATS.md: its script with its output, a line for each cause, outputs with their verdicts, queries with
+their answers and refusals, and what a command prints."""
 import os
 import re
 
 import model
 from lines import ddl
 
-FENCE = re.compile(r"^```(script|output|judged|console)( [^\n]*)?\n(.*?)^```$", re.M | re.S)
+FENCE = re.compile(r"^```(script|output|judged|shown|console)( [^\n]*)?\n(.*?)^```$", re.M | re.S)
 CAUSE = re.compile(r"^\| ([A-Z]\w+(?: [A-Z]\w+)?) \| [^|]* \| `(\{.*)` \|$", re.M)
+QUERY = re.compile(r"^\| `(2[01] [^`]*)` \| [^|]* \| ([^ |]*) \| `(SELECT [^`]*)` \|$", re.M)
 STATEMENT = re.compile(r"^\| [0-9]+ \| (\w+)(?:\([^)]*\))? \| [^|]* \| `([A-Z]{4,} .*)` \|$", re.M)
 
 
 def parts_of(path):
-    """The script, the other fences as (what, words, text), and the lines that are refused with their causes."""
+    """The script, the other fences as (what, words, text), the lines that are refused with their causes, and the queries with their answers."""
     with open(path, encoding="utf-8") as file:
         text = file.read()
     fences = [(what, words.split(), content) for what, words, content in FENCE.findall(text)]
     scripts = [content.encode() for what, _, content in fences if what == "script"]
     lines = [(cause, line.encode() + b"\n") for cause, line in CAUSE.findall(text)]
     lines += [(f"Schema {refusal}", ddl(statement, 4)) for refusal, statement in STATEMENT.findall(text)]
-    return scripts, [it for it in fences if it[0] != "script"], lines
+    fences = [it for it in fences if it[0] != "script"]
+    queries = [(now, query, answer + "\n") for answer, now, query in QUERY.findall(text)]
+    queries += [(words[0], " ".join(words[1:]), content) for what, words, content in fences if what == "shown"]
+    return scripts, [it for it in fences if it[0] != "shown"], lines, queries
 
 
 def check_refused(note, room, script, cause, line):
@@ -52,10 +56,21 @@ def check_fence(note, room, script, what, words, content):
     note(ran.returncode == own.status and ran.stdout.decode() == want, f"FORMATS.md, check of {content}", str(ran)[:400])
 
 
+def check_query(note, room, script, now, query, want):
+    own = model.show(script, now, query)
+    note(own.console == want, f"FORMATS.md, {query} at {now}: the model", own.console)
+    room.clear()
+    ran = room.run(["show", room.put("script", script), now, query])
+    note(ran.returncode == own.status and ran.stdout.decode() == want, f"FORMATS.md, {query} at {now}", str(ran)[:400])
+
+
 def check(note, room, top):
-    scripts, fences, lines = parts_of(os.path.join(top, "docs", "FORMATS.md"))
-    note(len(scripts) == 1 and len(fences) >= 5 and len(lines) >= 30, "FORMATS.md has its examples", (len(scripts), len(fences), len(lines)))
+    scripts, fences, lines, queries = parts_of(os.path.join(top, "docs", "FORMATS.md"))
+    counts = len(scripts), len(fences), len(lines), len(queries)
+    note(counts[0] == 1 and len(fences) >= 5 and len(lines) >= 30 and len(queries) >= 16, "FORMATS.md has its examples", counts)
     for fence in fences:
         check_fence(note, room, scripts[0], *fence)
     for cause, line in lines:
         check_refused(note, room, scripts[0], cause, line)
+    for query in queries:
+        check_query(note, room, scripts[0], *query)

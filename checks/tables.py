@@ -26,6 +26,9 @@ GOOD_OUTPUT = change() + watermark(WINDOW[1])
 REPLAY = ("replay", "SCRIPT", "journal", "output")
 START, END = WINDOW
 
+MOMENT = END
+QUERY = "SELECT ChangeRecord FROM READ_S('2024-05-01T00:00:01Z', NULL, NULL, 10000)"
+
 # no stamps
 NO_STAMPS = (
     "", "now", "2024-05-01", "2024-05-01T00:00:00", "2024-05-01T00:00:60Z", "2024-05-01T00:60:00Z", "2024-05-01T24:00:00Z",
@@ -71,6 +74,22 @@ BAD_WORDS = [
     (("check", "SCRIPT", "output", "S", START, "noon"), 5),
     (("check", "SCRIPT", "output", "S", END, START), 5),
     (("check", "SCRIPT", "output", "S", START, END, "x"), 6),
+    (("show",), 1),
+    (("show", "SCRIPT"), 2),
+    (("show", "SCRIPT", MOMENT), 3),
+    *((("show", "SCRIPT", it, QUERY), 2) for it in NO_STAMPS),
+    (("show", "SCRIPT", QUERY, MOMENT), 2),
+    (("show", "SCRIPT", "noon"), 2),
+    (("show", "SCRIPT", "noon", "no query", "x"), 2),
+    (("show", "SCRIPT", MOMENT, "no query"), 3),
+    (("show", "SCRIPT", MOMENT, "no query", "x"), 3),
+    (("show", "SCRIPT", MOMENT, ""), 3),
+    (("show", "SCRIPT", MOMENT, QUERY.replace(")", ",")), 3),
+    (("show", "SCRIPT", MOMENT, *QUERY.split()), 3),
+    (("show", "SCRIPT", MOMENT, QUERY, "x"), 4),
+    (("show", "SCRIPT", MOMENT, QUERY, ""), 4),
+    (("show", "SCRIPT", MOMENT, QUERY, "--order", "0"), 4),
+    (("SHOW", "SCRIPT", MOMENT, QUERY), 0),
     (("gen",), 1),
     *((("gen", it), 1) for it in ("", "x", "8", "11", "50001", "50002", "-10", "+10", "10.0", " 10", "00000000010", "9999999999", "--text")),
     (("gen", "10", "x"), 2),

@@ -1,11 +1,13 @@
-"""What the commands answer: the status, the console's last line, and for a replay the output."""
+"""What the commands answer: the status, what the console shows, and for a replay the output."""
 import functools
 import re
 
+from . import reads
 from .generated import END, START, STREAM, script_of
 from .history import captured
 from .refusal import Refusal
 from .script import BadScript, load
+from .sql import parse_query
 from .texts import compact, read_stamp, tree_of, write_stamp
 
 NAME = re.compile(r"[A-Za-z][A-Za-z0-9_]{0,127}")
@@ -14,9 +16,9 @@ CHANGE = '{"key":'
 
 
 class Answer:
-    def __init__(self, status, name, *values, output=b""):
+    def __init__(self, status, name, *values, output=b"", lines=()):
         self.status = status
-        self.console = " ".join([str(status), name, *(str(it) for it in values)]) + "\n"
+        self.console = "".join(it + "\n" for it in [*lines, " ".join([str(status), name, *(str(it) for it in values)])])
         self.output = output
 
 
@@ -169,6 +171,27 @@ def check(script, output, stream, start, end):
         return Answer(56, "BadOutput", bad.held)
     verdict = audit(lines, wanted(state, stream, read_stamp(start), read_stamp(end)), read_stamp(end))
     return Answer(0, "Ended") if verdict == ("Complete",) else Answer(11, "Verdict", *verdict)
+
+
+def show(script, moment, query):
+    """Of the READ that a query asks for at a moment."""
+    try:
+        moment = read_stamp(moment)
+    except Refusal:
+        return Answer(50, "BadWords", 2)
+    try:
+        function, arguments = parse_query(query)
+    except Refusal:
+        return Answer(50, "BadWords", 3)
+    state = loaded(script)
+    if isinstance(state, BadScript):
+        return Answer(51, "BadScript", state.line, state.cause)
+    try:
+        return Answer(0, "Ended", lines=reads.read(state, function, arguments, moment))
+    except Refusal as refusal:
+        if refusal.name == "StartTooOld":
+            return Answer(20, "RetentionPassed", write_stamp(refusal.held))
+        return Answer(21, "Refused", refusal.name)
 
 
 def gen(commits):

@@ -20,9 +20,10 @@ class Write:
 
 
 class Modification:
-    def __init__(self, at, tx, write, before, after):
+    def __init__(self, at, tx, tag, write, before, after):
         self.at = at
         self.tx = tx
+        self.tag = tag
         self.write = write
         self.before = before
         self.after = after
@@ -62,7 +63,7 @@ class History:
         self.writers = {}
         self.sum = 0
 
-    def commit(self, tables, at, tx, writes):
+    def commit(self, tables, at, tx, writes, tag=""):
         self.refuse(tables, at, tx, writes)
         changed = [self.changed(tables[it.table], it) for it in writes]
         sizes = [tuple(row_size(tables[it.table], it.key, cells) for cells in both) for it, both in zip(writes, changed)]
@@ -79,7 +80,7 @@ class History:
         for write, (before, after) in zip(writes, changed):
             self.writers[write.row()] = tx
             self.rows[write.row()] = after
-            self.modifications.append(Modification(at, tx, write, before or {}, after or {}))
+            self.modifications.append(Modification(at, tx, tag, write, before or {}, after or {}))
 
     def refuse(self, tables, at, tx, writes):
         if tx in self.ids:

@@ -206,7 +206,7 @@ class State:
         there = self.writes_at_last if at == self.last_commit else 0
         if there + len(writes) > MOST_WRITES:
             raise Refusal("TooManyAtStamp")
-        within("Txn", self.history.commit, self.catalog.tables, at, tree["id"], writes)
+        within("Txn", self.history.commit, self.catalog.tables, at, tree["id"], writes, tree.get("tag", ""))
         self.last_commit, self.writes_at_last = at, there + len(writes)
 
     def reshape(self, at, tree):
@@ -220,9 +220,11 @@ class State:
         within("Layout", self.layouts[tree["stream"]].reshape, at, tree["parts"], borders)
 
     def place(self, border):
-        table = border["table"]
+        return self.row_place(border["table"], self.cells(border["table"], border.get("key", {})))
+
+    def row_place(self, table, cells):
+        """The place of the row that has these cells as its key; of none, the table's."""
         columns = self.catalog.tables[table].columns
-        cells = self.cells(table, border.get("key", {}))
         return table_place(table) + b"".join(value_place(cells[it], columns[it][0]) for it in sorted(cells))
 
 

@@ -1,16 +1,19 @@
-"""The statements of a script. A text outside of the grammar is refused with the byte of the first token with which no
-text of the grammar goes on."""
+"""The statements of a script, and the query that reads a change stream. A text outside of the grammar is refused with the
+byte of the first token with which no text of the grammar goes on."""
 import re
 
 from .refusal import Refusal
 
 BLANKS = re.compile(rb"[ \t\r\n]*")
 WORD = re.compile(rb"[A-Za-z][A-Za-z0-9_]*")
-QUOTED = re.compile(rb"`([A-Za-z][A-Za-z0-9_]{0,127})`")
+QUOTED = re.compile(rb"`([A-Za-z][A-Za-z0-9_]*)`")
 NUMBER = re.compile(rb"-?[0-9]+")
 TEXT = re.compile(rb"'([^'\\\r\n]*)'|\"([^\"\\\r\n]*)\"")
 SIGN = re.compile(rb"=>|[(),;=]")
 RESERVED = {"ALL", "ASC", "FALSE", "FOR", "NOT", "NULL", "TRUE"}
+LONGEST_NAME = 128
+LONGEST_FUNCTION = 133
+POSITIONAL = ("start_timestamp", "end_timestamp", "partition_token", "heartbeat_milliseconds", "read_options")
 PLAIN_TYPES = ("BOOL", "INT64", "NUMERIC", "DATE", "TIMESTAMP")
 SIZED_TYPES = ("STRING", "BYTES")
 
@@ -32,7 +35,7 @@ class Cursor:
         if at == len(self.data):
             return "end", "", at
         if found := WORD.match(self.data, at):
-            return ("word" if len(found[0]) <= 128 else "bad"), found[0].decode(), found.end()
+            return "word", found[0].decode(), found.end()
         if found := QUOTED.match(self.data, at):
             return "quoted", found[1].decode(), found.end()
         if found := NUMBER.match(self.data, at):
@@ -80,8 +83,10 @@ class Cursor:
             return True
         return False
 
-    def name(self):
+    def name(self, longest=LONGEST_NAME):
         if self.kind != "quoted" and (self.kind != "word" or self.text.upper() in RESERVED):
+            self.fail()
+        if len(self.text) > longest:
             self.fail()
         return self.take()
 
@@ -222,10 +227,77 @@ def statement(at):
     return ("NotBuilt",)
 
 
-def parse(text):
+def text_literal(at, kind):
+    if at.kind != "text":
+        at.fail()
+    return kind, at.take()
+
+
+def literal(at):
+    """The literal's kind and what it says: null, text, timestamp or number."""
+    if at.had_word("NULL"):
+        return "null", None
+    if at.kind == "number":
+        return "number", int(at.take())
+    if at.had_word("TIMESTAMP"):
+        return text_literal(at, "timestamp")
+    return text_literal(at, "text")
+
+
+def first_argument(at):
+    """The first argument's name, or None where it has a position alone, and its literal."""
+    if at.kind in ("text", "number") or at.is_word("NULL"):
+        return None, literal(at)
+    if at.is_word("TIMESTAMP"):
+        name = at.take()
+        if not at.is_sign("=>"):
+            return None, text_literal(at, "timestamp")
+    else:
+        name = at.name()
+    at.sign("=>")
+    return name, literal(at)
+
+
+def arguments(at):
+    """Each argument's name and literal; a position stands for a name."""
+    name, value = first_argument(at)
+    if name is None:
+        values = [value]
+        while at.had_sign(","):
+            if len(values) == len(POSITIONAL):
+                at.fail()
+            values.append(literal(at))
+        return list(zip(POSITIONAL, values))
+    found = [(name, value)]
+    while at.had_sign(","):
+        name = at.name()
+        at.sign("=>")
+        found.append((name, literal(at)))
+    return found
+
+
+def query(at):
+    at.words("SELECT", "CHANGERECORD", "FROM")
+    function = at.name(LONGEST_FUNCTION)
+    at.sign("(")
+    found = [] if at.is_sign(")") else arguments(at)
+    at.sign(")")
+    return function, found
+
+
+def whole(text, grammar):
     at = Cursor(text)
-    found = statement(at)
+    found = grammar(at)
     at.had_sign(";")
     if at.kind != "end":
         at.fail()
     return found
+
+
+def parse(text):
+    return whole(text, statement)
+
+
+def parse_query(text):
+    """The function's name, and the arguments by their names, each with its literal."""
+    return whole(text, query)

@@ -1,19 +1,19 @@
 -- One cell more.
-use Rattle.std.proofs.Common.{◌≡◌, List, [], ◌∷◌, ◌++◌, map, Option, None, Result, Ok, IfOk, String, Global, string_bytes, string_cmp, nat_cmp, Less, refl, ap, sym, subst, ◌∙◌, append-nil}
+use Rattle.std.proofs.Common.{◌≡◌, List, [], ◌∷◌, ◌++◌, map, Option, None, Result, Ok, IfOk, ℕ, Bor, nat_cmp, Less, refl, ap, sym, subst, ◌∙◌, append-nil}
 use Rattle.std.specs.Cmp.Lexicographic.{slice_cmp}
 use Rattle.std.specs.List.{AllByRecursion}
 use Rattle.std.specs.List.Sorted.{IsStrictlySortedBy}
 use Rattle.std.specs.Map.{keys_of}
 use Rattle.std.proofs.lemmas.List.Elements.{All-push, All-nil}
-use Rattle.serde_json.proofs.Views.{Entry}
+use Rattle.cs_tree.proofs.Views.{Entry, name_cmp}
 use Rattle.cs_types.specs.declared.cells.Cell.{Cell}
 use Rattle.cs_types.specs.Value.{IsInRange}
 use Rattle.cs_script.specs.declared.fault.LineCause.{LineCause}
 use Rattle.cs_script.specs.Gathering.{HasNames}
 
-names_more : (before : List Cell) (e : Entry) (es : List Entry) (cell : Cell) → cell.column ≡ string_bytes e.0
-    → map (λ (c : Cell). c.column) (before ++ cell ∷ []) ++ map (λ (e : Entry). string_bytes e.0) es ≡ map (λ (c : Cell). c.column) before ++ map (λ (e : Entry). string_bytes e.0) (e ∷ es)
-names_more [] e es cell h = ap (λ x. x ∷ map (λ (e : Entry). string_bytes e.0) es) h
+names_more : (before : List Cell) (e : Entry) (es : List Entry) (cell : Cell) → cell.column ≡ e.0.now
+    → map (λ (c : Cell). c.column) (before ++ cell ∷ []) ++ map (λ (e : Entry). e.0.now) es ≡ map (λ (c : Cell). c.column) before ++ map (λ (e : Entry). e.0.now) (e ∷ es)
+names_more [] e es cell h = ap (λ x. x ∷ map (λ (e : Entry). e.0.now) es) h
 names_more (d ∷ before) e es cell h = ap (λ xs. d.column ∷ xs) (names_more before e es cell h)
 
 -- at first
@@ -22,32 +22,32 @@ no_cell es = record { names = refl; in_range = All-nil (λ (c : Cell). IsInRange
 
 -- one more
 pub cell_more : (cells now : List Cell) (cause after : Option LineCause) (e : Entry) (es all : List Entry) (item : Result Cell LineCause)
-    → IfOk item (λ c. c.column ≡ string_bytes e.0) → IfOk item (λ c. IsInRange c.value) → (cause ≡ None → HasNames cells (e ∷ es) all)
+    → IfOk item (λ c. c.column ≡ e.0.now) → IfOk item (λ c. IsInRange c.value) → (cause ≡ None → HasNames cells (e ∷ es) all)
     → (after ≡ None → (t : Cell) × (item ≡ Ok t) × (cause ≡ None) × (now ≡ cells ++ t ∷ [])) → after ≡ None → HasNames now es all
 cell_more cells now cause after e es all item column range before kept none =
     let (t, is, no_cause, now_is) = kept none in
     let had = before no_cause in
-    let column_is : t.column ≡ string_bytes e.0 = subst (λ r. IfOk r (λ c. c.column ≡ string_bytes e.0)) is column in
+    let column_is : t.column ≡ e.0.now = subst (λ r. IfOk r (λ c. c.column ≡ e.0.now)) is column in
     let range_is : IsInRange t.value = subst (λ r. IfOk r (λ c. IsInRange c.value)) is range in
     subst (λ cs. HasNames cs es all) (sym now_is) (record {
       names = names_more cells e es t column_is ∙ had.names;
       in_range = All-push (λ (c : Cell). IsInRange c.value) cells t had.in_range range_is;
     })
 
-below : (k : String Global) (es : List Entry) → AllByRecursion (λ y. string_cmp k y ≡ Less) (keys_of es)
-    → AllByRecursion (λ y. slice_cmp nat_cmp (string_bytes k) y ≡ Less) (map (λ (e : Entry). string_bytes e.0) es)
+below : (k : Bor (List ℕ)) (es : List Entry) → AllByRecursion (λ y. name_cmp k y ≡ Less) (keys_of es)
+    → AllByRecursion (λ y. slice_cmp nat_cmp k.now y ≡ Less) (map (λ (e : Entry). e.0.now) es)
 below k [] h = tt
 below k (e ∷ es) h = (h.0, below k es h.1)
 
 -- the names of an object rise
-rising_names : (es : List Entry) → IsStrictlySortedBy string_cmp (keys_of es) → IsStrictlySortedBy (slice_cmp nat_cmp) (map (λ (e : Entry). string_bytes e.0) es)
+rising_names : (es : List Entry) → IsStrictlySortedBy name_cmp (keys_of es) → IsStrictlySortedBy (slice_cmp nat_cmp) (map (λ (e : Entry). e.0.now) es)
 unfolding IsStrictlySortedBy
 rising_names [] h = tt
 rising_names (e ∷ es) h = (below e.0 es h.0, rising_names es h.1)
 
 -- and so do the cells
 pub rising_cells : (cells : List Cell) (es rest : List Entry) → rest ≡ [] → HasNames cells rest es
-    → IsStrictlySortedBy string_cmp (keys_of es) → IsStrictlySortedBy (slice_cmp nat_cmp) (map (λ (c : Cell). c.column) cells)
+    → IsStrictlySortedBy name_cmp (keys_of es) → IsStrictlySortedBy (slice_cmp nat_cmp) (map (λ (c : Cell). c.column) cells)
 rising_cells cells es rest none has sorted =
-    let same : map (λ (c : Cell). c.column) cells ≡ map (λ (e : Entry). string_bytes e.0) es = sym (append-nil (map (λ (c : Cell). c.column) cells)) ∙ ap (λ (r : List Entry). map (λ (c : Cell). c.column) cells ++ map (λ (e : Entry). string_bytes e.0) r) (sym none) ∙ has.names in
+    let same : map (λ (c : Cell). c.column) cells ≡ map (λ (e : Entry). e.0.now) es = sym (append-nil (map (λ (c : Cell). c.column) cells)) ∙ ap (λ (r : List Entry). map (λ (c : Cell). c.column) cells ++ map (λ (e : Entry). e.0.now) r) (sym none) ∙ has.names in
     rw same (rising_names es sorted)

@@ -1,7 +1,8 @@
 -- What a database keeps when a line was taken.
-use Rattle.std.proofs.Common.{◌≡◌, ◌≤◌, ◌+◌, ℕ, zero, suc, List, [], ◌∷◌, ◌++◌, map, length, Bool, true, false, cond, is_some, slice_get, slice_set, All, Option, None, Some, refl, sym, ap, subst, ◌∙◌, append-nil, arith}
+use Rattle.std.proofs.Common.{◌≡◌, ◌<◌, ◌≤◌, ◌+◌, ℕ, zero, suc, List, [], ◌∷◌, ◌++◌, map, length, Bool, true, false, cond, is_some, slice_get, slice_set, All, Option, None, Some, refl, sym, ap, subst, ◌∙◌, append-nil, arith}
 use Rattle.std.specs.Str.Lossy.{utf8_lossy}
 use Rattle.std.proofs.lemmas.List.Elements.{All-nil, All-cons, All-head, All-tail, All-weaker, All-append, All-push, All-set}
+use Rattle.cs_ddl.specs.Lex.{is_word_byte}
 use Rattle.cs_ddl.specs.declared.tree.Statement.{Statement}
 use Rattle.cs_ddl.specs.declared.tree.Statement.TheVariants.{CreateTable, AddColumn, CreateStream, SetWatch, DropWatch, SetOptions, DropStream}
 use Rattle.cs_types.specs.Database.{IsName}
@@ -12,8 +13,9 @@ use Rattle.cs_schema.specs.declared.types.Stream.{Stream}
 use Rattle.cs_schema.specs.Tables.{with_column, table_named}
 use Rattle.cs_schema.specs.Applying.{applied}
 use Rattle.cs_txn.specs.declared.txn.Txn.{Txn}
+use Rattle.cs_txn.specs.declared.txn.Write.{Write}
 use Rattle.cs_txn.specs.declared.txn.Modification.{Modification}
-use Rattle.cs_txn.specs.Fits.{HaveNames, IsHistoryOf}
+use Rattle.cs_txn.specs.Fits.{IsHistoryOf}
 use Rattle.cs_txn.specs.History.{modifications_of, modifications_from}
 use Rattle.cs_place.specs.declared.place.Place.{Place}
 use Rattle.cs_place.specs.declared.part.Part.{Part}
@@ -23,8 +25,11 @@ use Rattle.cs_partitions.specs.Reshape.{reshaped, with_end, followers, new_parts
 use Rattle.cs_script.specs.Database.{Database, writes_at}
 use Rattle.cs_script.specs.Kept.{IsBy, IsEndBy, IsPartBy, IsLayoutOf, AreLayoutsOf, IsKept}
 use Rattle.cs_script.specs.Line.{is_back}
+use Rattle.cs_script.specs.Members.{is_id}
+use Rattle.cs_script.specs.Named.{IsTableName}
 use Rattle.cs_script.specs.Takes.{HasNames, schema_of, with_schema, layouts_made}
 use Rattle.cs_script.proofs.Counting.{by_later, few_with, new_by}
+use Rattle.cs_script.proofs.Naming.{word_above}
 
 end_later : (last : Option ℕ) (at : ℕ) (until : Option ℕ) → is_back last at ≡ false → IsEndBy last until → IsEndBy (Some at) until
 end_later last at None order h = tt
@@ -47,12 +52,18 @@ layouts_later last at order ls h = All-weaker (λ (l : StreamParts). All (IsPart
 
 -- ---- a commit
 
-pub kept_commit : (db : Database) (txn : Txn) → IsKept db → is_back db.last txn.stamp ≡ false → writes_at txn.stamp db.modifications + length txn.writes ≤ 1024
+new_ids : (tables : List Table) (ms : List Modification) (txn : Txn) (ws : List Write) → is_id txn.tx ≡ true → All (λ (m : Modification). is_id m.tx ≡ true) (modifications_from tables ms txn ws)
+new_ids tables ms txn [] h = All-nil (λ (m : Modification). is_id m.tx ≡ true)
+new_ids tables ms txn (w ∷ ws) h = All-cons (λ (m : Modification). is_id m.tx ≡ true) _ (modifications_from tables ms txn ws) h (new_ids tables ms txn ws h)
+
+pub kept_commit : (db : Database) (txn : Txn) → IsKept db → is_back db.last txn.stamp ≡ false → is_id txn.tx ≡ true → writes_at txn.stamp db.modifications + length txn.writes ≤ 1024
     → IsHistoryOf db.tables (db.modifications ++ modifications_of db.tables db.modifications txn)
     → IsKept (record { tables = db.tables; streams = db.streams; modifications = db.modifications ++ modifications_of db.tables db.modifications txn; layouts = db.layouts; last = Some txn.stamp })
-kept_commit db txn kept order room fits = record {
+kept_commit db txn kept order id room fits = record {
   names = kept.names;
+  table_names = kept.table_names;
   fits = fits;
+  ids = All-append (λ (m : Modification). is_id m.tx ≡ true) db.modifications (modifications_from db.tables db.modifications txn txn.writes) kept.ids (new_ids db.tables db.modifications txn txn.writes id);
   layouts = kept.layouts;
   few = few_with db.tables db.modifications txn room kept.few;
   commits = All-append (λ (m : Modification). IsBy (Some txn.stamp) m.stamp) db.modifications (modifications_from db.tables db.modifications txn txn.writes)
@@ -63,23 +74,25 @@ kept_commit db txn kept order room fits = record {
 
 -- ---- a statement
 
-names_grown : (name : List ℕ) (column : Column) (ts : List Table) → HaveNames ts → HaveNames (with_column name column ts)
-names_grown name column [] h = h
-names_grown name column (t ∷ ts) h = by (is_some (table_named name ts)) (is_same t.name name) (names_grown name column ts (All-tail (λ (t : Table). IsName t.name) t ts h))
-  where
-    by : (b c : Bool) → HaveNames (with_column name column ts) → HaveNames (cond b (t ∷ with_column name column ts) (cond c (record { name = t.name; columns = t.columns ++ column ∷ []; key = t.key } ∷ ts) (t ∷ ts)))
-    by true c rest = All-cons (λ (t : Table). IsName t.name) t (with_column name column ts) (All-head (λ (t : Table). IsName t.name) t ts h) rest
-    by false true rest = All-cons (λ (t : Table). IsName t.name) _ ts (All-head (λ (t : Table). IsName t.name) t ts h) (All-tail (λ (t : Table). IsName t.name) t ts h)
-    by false false rest = h
+-- what holds of each name that a table may have
+module _ (P : List ℕ → Type 0) (of : (name : List ℕ) → IsTableName name → P name) where
+  names_grown : (name : List ℕ) (column : Column) (ts : List Table) → All (λ (t : Table). P t.name) ts → All (λ (t : Table). P t.name) (with_column name column ts)
+  names_grown name column [] h = h
+  names_grown name column (t ∷ ts) h = by (is_some (table_named name ts)) (is_same t.name name) (names_grown name column ts (All-tail (λ (t : Table). P t.name) t ts h))
+    where
+      by : (b c : Bool) → All (λ (t : Table). P t.name) (with_column name column ts) → All (λ (t : Table). P t.name) (cond b (t ∷ with_column name column ts) (cond c (record { name = t.name; columns = t.columns ++ column ∷ []; key = t.key } ∷ ts) (t ∷ ts)))
+      by true c rest = All-cons (λ (t : Table). P t.name) t (with_column name column ts) (All-head (λ (t : Table). P t.name) t ts h) rest
+      by false true rest = All-cons (λ (t : Table). P t.name) _ ts (All-head (λ (t : Table). P t.name) t ts h) (All-tail (λ (t : Table). P t.name) t ts h)
+      by false false rest = h
 
-names_applied : (db : Database) (at : ℕ) (s : Statement) → HaveNames db.tables → HasNames s → HaveNames (applied (schema_of db) at s).tables
-names_applied db at (CreateTable name columns key) h n = All-push (λ (t : Table). IsName t.name) db.tables _ h n
-names_applied db at (AddColumn table name ty) h n = names_grown _ _ db.tables h
-names_applied db at (CreateStream name watch options) h n = h
-names_applied db at (SetWatch name watch) h n = h
-names_applied db at (DropWatch name) h n = h
-names_applied db at (SetOptions name options) h n = h
-names_applied db at (DropStream name) h n = h
+  names_applied : (db : Database) (at : ℕ) (s : Statement) → All (λ (t : Table). P t.name) db.tables → HasNames s → All (λ (t : Table). P t.name) (applied (schema_of db) at s).tables
+  names_applied db at (CreateTable name columns key) h n = All-push (λ (t : Table). P t.name) db.tables _ h (of (utf8_lossy name) n)
+  names_applied db at (AddColumn table name ty) h n = names_grown _ _ db.tables h
+  names_applied db at (CreateStream name watch options) h n = h
+  names_applied db at (SetWatch name watch) h n = h
+  names_applied db at (DropWatch name) h n = h
+  names_applied db at (SetOptions name options) h n = h
+  names_applied db at (DropStream name) h n = h
 
 one_layout : (ss : List Stream) (ls : List StreamParts) (s : Stream) (l : StreamParts) → AreLayoutsOf ss ls → IsLayoutOf s l → AreLayoutsOf (ss ++ s ∷ []) (ls ++ l ∷ [])
 one_layout [] [] s l h is = (is, tt)
@@ -123,8 +136,10 @@ parts_applied ls at (DropStream name) h = subst (All (λ (l : StreamParts). All 
 pub kept_statement : (db : Database) (at : ℕ) (s : Statement) → IsKept db → is_back db.last at ≡ false → HasNames s
     → IsHistoryOf (applied (schema_of db) at s).tables db.modifications → IsKept (with_schema db at s (applied (schema_of db) at s))
 kept_statement db at s kept order has fits = record {
-  names = names_applied db at s kept.names has;
+  names = names_applied IsName (λ name h. All-weaker (λ b. is_word_byte b ≡ true) (λ b. 0 < b) word_above name h.word) db at s kept.names has;
+  table_names = names_applied IsTableName (λ name h. h) db at s kept.table_names has;
   fits = fits;
+  ids = kept.ids;
   layouts = layouts_applied db at s kept.layouts;
   few = kept.few;
   commits = commits_later db.last at order db.modifications kept.commits;
@@ -173,7 +188,9 @@ kept_reshape db at place l tokens borders kept order there =
     let later = layouts_later db.last at order db.layouts kept.parts in
     record {
       names = kept.names;
+      table_names = kept.table_names;
       fits = kept.fits;
+      ids = kept.ids;
       layouts = set_layout db.streams db.layouts place l (reshaped l at tokens borders) kept.layouts there refl refl;
       few = kept.few;
       commits = commits_later db.last at order db.modifications kept.commits;

@@ -5,6 +5,7 @@ mod Counting
 mod Keeping
 mod Trees
 mod Doing
+mod Ids
 mod Naming
 mod Pieces
 mod Places
@@ -12,3 +13,4 @@ mod SourceSteps
 mod Advancing
 mod Alone
 mod Columns
+mod Named

@@ -1,11 +1,10 @@
 -- The names of a statement: letters, digits and `_`.
-use Rattle.std.proofs.Common.{◌≡◌, ◌<◌, ◌≤◌, ◌+◌, ◌-◌, ℕ, zero, suc, List, [], ◌∷◌, ◌++◌, length, take, Bool, true, false, not, ◌&&◌, ◌||◌, ◌==◌, cond, if◌then◌else◌, nat_le, nat_lt, Option, None, Some, unwrap_or, refl, sym, ap, subst, ◌∙◌, arith, slice_index_or, slice_index, codes}
+use Rattle.std.proofs.Common.{◌≡◌, ◌<◌, ◌≤◌, ◌+◌, ◌-◌, ℕ, zero, suc, List, [], ◌∷◌, ◌++◌, length, take, Bool, true, false, not, ◌&&◌, ◌||◌, ◌==◌, cond, if◌then◌else◌, nat_le, nat_lt, Option, None, Some, unwrap_or, refl, sym, ap, subst, ◌∙◌, arith, slice_index_or, slice_index, codes, true≢false}
 use Rattle.std.specs.List.{position_or_len, AllByRecursion}
 use Rattle.std.specs.Str.Lossy.{utf8_lossy}
 use Rattle.std.proofs.lemmas.Bool.{and_parts, and_from, leb-true, ltb-true}
 use Rattle.std.proofs.lemmas.List.Elements.{All-from_recursion}
 use Rattle.std.proofs.lemmas.Str.{utf8_lossy-IsUtf8, IsUtf8-from_ascii}
-use Rattle.cs_types.specs.Database.{IsName}
 use Rattle.cs_types.specs.Token.{is_token_byte, are_token_bytes}
 use Rattle.std.specs.Char.{is_ascii_alphabetic, is_ascii_digit}
 use Rattle.std.proofs.lemmas.List.{length-take}
@@ -20,6 +19,7 @@ use Rattle.cs_ddl.specs.Grammar.{Item, Name, Keyword, Sign, Part, Must, May, Sta
 use Rattle.cs_ddl.specs.Grammars.{statements}
 use Rattle.cs_ddl.specs.Text.{IsTextOf}
 use Rattle.cs_partitions.specs.Tokens.{token_of as token_name}
+use Rattle.cs_script.specs.Named.{begins_with_letter, IsTableName}
 use Rattle.cs_script.specs.Takes.{HasNames}
 
 abbrev pub IsWord : List ℕ → Type 0
@@ -28,7 +28,7 @@ IsWord = AllByRecursion (λ b. is_word_byte b ≡ true)
 word_token : (b : ℕ) → is_word_byte b ≡ true → is_token_byte b ≡ true
 word_token b h = grind (arith, h)
 
-word_above : (b : ℕ) → is_word_byte b ≡ true → 0 < b
+pub word_above : (b : ℕ) → is_word_byte b ≡ true → 0 < b
 word_above b h = grind (arith, h)
 
 word_ascii : (b : ℕ) → is_word_byte b ≡ true → b < 128
@@ -37,13 +37,6 @@ word_ascii b h = grind (arith, h)
 pub word_tokens : (bs : List ℕ) → IsWord bs → are_token_bytes bs ≡ true
 word_tokens [] h = refl
 word_tokens (b ∷ bs) h = and_from (is_token_byte b) (are_token_bytes bs) (word_token b h.0) (word_tokens bs h.1)
-
-above : (bs : List ℕ) → IsWord bs → AllByRecursion (λ b. 0 < b) bs
-above [] h = tt
-above (b ∷ bs) h = (word_above b h.0, above bs h.1)
-
-pub word_name : (bs : List ℕ) → IsWord bs → IsName bs
-word_name bs h = All-from_recursion (λ b. 0 < b) bs (above bs h)
 
 ascii : (bs : List ℕ) → IsWord bs → (i : ℕ) → slice_index_or bs i 0 < 128
 ascii [] h i = omega arith
@@ -86,6 +79,31 @@ word_front bs =
     let most : word_len bs ≤ position_or_len (λ b. not (is_word_byte b)) bs = at_most (position_or_len (λ b. not (is_word_byte b)) bs) (length bs) (nat_lt (position_or_len (λ b. not (is_word_byte b)) bs) (length bs)) refl in
     front_passes bs (word_len bs) (λ k lt within. not_false (is_word_byte (slice_index_or bs k 0)) (before_fails (λ b. not (is_word_byte b)) bs k (omega (arith, lt, most))))
 
+-- a word that begins with a letter
+abbrev IsSpelled : List ℕ → Type 0
+IsSpelled bs = IsWord bs × (begins_with_letter bs ≡ true)
+
+at_least : (n m : ℕ) (b : Bool) → 1 ≤ n → 1 ≤ m → 1 ≤ unwrap_or (cond b (Some n) None) m
+at_least n m true h k = h
+at_least n m false h k = k
+
+not_none : (b : Bool) (n : ℕ) → b ≡ true → 1 ≤ cond (not (not b)) (1 + n) 0
+not_none b n e = rw e (omega arith)
+
+letter_word : (b : ℕ) → is_ascii_alphabetic b ≡ true → is_word_byte b ≡ true
+letter_word b h = grind (arith, h)
+
+letter_taken : (n b : ℕ) (bs : List ℕ) → 1 ≤ n → is_ascii_alphabetic b ≡ true → begins_with_letter (take n (b ∷ bs)) ≡ true
+letter_taken zero b bs lt h = absurd (omega (arith, lt))
+letter_taken (suc n) b bs lt h = h
+
+-- where a letter stands first they begin with it
+letter_front : (bs : List ℕ) → is_ascii_alphabetic (slice_index bs 0) ≡ true → begins_with_letter (take (word_len bs) bs) ≡ true
+letter_front [] h = absurd (true≢false (sym h))
+letter_front (b ∷ bs) h =
+    let some : 1 ≤ position_or_len (λ b. not (is_word_byte b)) (b ∷ bs) = not_none (is_word_byte b) (position_or_len (λ b. not (is_word_byte b)) bs) (letter_word b h) in
+    letter_taken (word_len (b ∷ bs)) b bs (at_least (position_or_len (λ b. not (is_word_byte b)) (b ∷ bs)) (length (b ∷ bs)) (nat_lt (position_or_len (λ b. not (is_word_byte b)) (b ∷ bs)) (length (b ∷ bs))) some (omega arith)) h
+
 -- ---- tokens of a text
 
 -- a token that was cut from a text
@@ -105,8 +123,8 @@ all_cut zero at (b ∷ bytes) = by (is_blank b) (all_cut zero (at + 1) bytes) (a
 
 -- what a kind and a length of a token that begins with a byte say of its name
 abbrev HasName : ℕ → List ℕ → Option Kind × ℕ → Type 0
-HasName b bytes (Some kinds.Word, n) = IsWord (b ∷ take n bytes)
-HasName b bytes (Some kinds.Quoted, n) = IsWord (inner (b ∷ take n bytes))
+HasName b bytes (Some kinds.Word, n) = IsSpelled (b ∷ take n bytes)
+HasName b bytes (Some kinds.Quoted, n) = IsSpelled (inner (b ∷ take n bytes))
 HasName b bytes _ = Unit {0}
 
 if_has : (b : ℕ) (bytes : List ℕ) (t : Bool) (x y : Option Kind × ℕ) → (t ≡ true → HasName b bytes x) → HasName b bytes y → HasName b bytes (if t then x else y)
@@ -129,7 +147,7 @@ unfolding quoted
 quoted_has b bytes = if_has b bytes (is_ascii_alphabetic (slice_index bytes 0) && has_at 96 (word_len bytes) bytes) (Some kinds.Quoted, word_len bytes + 1) (None, 0) (λ e.
     let here = and_parts (is_ascii_alphabetic (slice_index bytes 0)) (has_at 96 (word_len bytes) bytes) e in
     let within = and_parts (nat_lt (word_len bytes) (length bytes)) (slice_index bytes (word_len bytes) == 96) here.1 in
-    subst IsWord (sym (inner_is b (word_len bytes) bytes (ltb-true (word_len bytes) (length bytes) within.0))) (word_front bytes)) tt
+    subst IsSpelled (sym (inner_is b (word_len bytes) bytes (ltb-true (word_len bytes) (length bytes) within.0))) (word_front bytes, letter_front bytes here.0)) tt
 
 text_has : (b quote : ℕ) (bytes : List ℕ) → HasName b bytes (quoted_text quote bytes)
 unfolding quoted_text
@@ -143,13 +161,10 @@ equals_has : (b : ℕ) (bytes : List ℕ) → HasName b bytes (equals bytes)
 unfolding equals
 equals_has b bytes = if_has b bytes (has_at 62 0 bytes) _ _ (λ e. tt) tt
 
-letter_word : (b : ℕ) → is_ascii_alphabetic b ≡ true → is_word_byte b ≡ true
-letter_word b h = grind (arith, h)
-
 has_name : (b : ℕ) (bytes : List ℕ) → HasName b bytes (kind_and_len b bytes)
 unfolding kind_and_len
 has_name b bytes =
-    if_has b bytes (is_ascii_alphabetic b) _ _ (λ e. (letter_word b e, word_front bytes))
+    if_has b bytes (is_ascii_alphabetic b) _ _ (λ e. ((letter_word b e, word_front bytes), e))
     (if_has b bytes (is_ascii_digit b) _ _ (λ e. tt)
     (if_has b bytes (b == 96) _ _ (λ e. quoted_has b bytes)
     (if_has b bytes (b == 39) _ _ (λ e. text_has b b bytes)
@@ -161,7 +176,7 @@ has_name b bytes =
     (if_has b bytes (b == 44) _ _ (λ e. tt)
     (if_has b bytes (b == 59) _ _ (λ e. tt) tt))))))))))
 
-name_of : (b : ℕ) (bytes : List ℕ) (k : Option Kind) (n : ℕ) (r : Bool) → HasName b bytes (k, n) → (same_kind kinds.Quoted k || (same_kind kinds.Word k && r)) ≡ true → IsWord (name_text k (b ∷ take n bytes))
+name_of : (b : ℕ) (bytes : List ℕ) (k : Option Kind) (n : ℕ) (r : Bool) → HasName b bytes (k, n) → (same_kind kinds.Quoted k || (same_kind kinds.Word k && r)) ≡ true → IsSpelled (name_text k (b ∷ take n bytes))
 name_of b bytes None n r h e = cc
 name_of b bytes (Some kinds.Word) n r h e = h
 name_of b bytes (Some kinds.Quoted) n r h e = h
@@ -176,7 +191,7 @@ name_of b bytes (Some kinds.Arrow) n r h e = cc
 
 -- a name that stands in a text
 pub IsShortWord : List ℕ → Type 0
-IsShortWord n = IsWord n × (length n ≤ 128)
+IsShortWord n = IsSpelled n × (length n ≤ 128)
 
 cut_name : (at b : ℕ) (bytes : List ℕ) → is_name (token_of at b bytes) ≡ true → IsShortWord (name_in (token_of at b bytes))
 unfolding IsShortWord
@@ -201,11 +216,11 @@ fourth h i j n rest (t ∷ ts) m a = third i j n rest ts m.1 a.1
 
 stream_name : ((name : List ℕ) → are_token_bytes name ≡ true → length name ≤ 1018 → is_token (token_name name 0) ≡ true) → (n : List ℕ) → IsShortWord n → is_token (token_name (utf8_lossy n) 0) ≡ true
 unfolding IsShortWord
-stream_name make n h = subst (λ m. is_token (token_name m 0) ≡ true) (sym (word_text n h.0)) (make n (word_tokens n h.0) (omega (arith, h.1)))
+stream_name make n h = subst (λ m. is_token (token_name m 0) ≡ true) (sym (word_text n h.0.0)) (make n (word_tokens n h.0.0) (omega (arith, h.1)))
 
-table_name : (n : List ℕ) → IsShortWord n → IsName (utf8_lossy n)
+table_name : (n : List ℕ) → IsShortWord n → IsTableName (utf8_lossy n)
 unfolding IsShortWord
-table_name n h = subst IsName (sym (word_text n h.0)) (word_name n h.0)
+table_name n h = subst IsTableName (sym (word_text n h.0.0)) (record { letter = h.0.1; word = All-from_recursion (λ b. is_word_byte b ≡ true) n h.0.0; most = h.1 })
 
 has_names : ((name : List ℕ) → are_token_bytes name ≡ true → length name ≤ 1018 → is_token (token_name name 0) ≡ true) → (s : Statement) (bytes : List ℕ) → Matches (text s) (tokens_of bytes) → HasNames s
 has_names make (CreateTable n columns key) bytes m = table_name n (third (Keyword (codes "create")) (Keyword (codes "table")) n (column_list columns ++ key_list key ++ May (Sign kinds.Semicolon) ∷ []) (tokens_of bytes) m (all_cut 0 0 bytes))

@@ -1,11 +1,14 @@
 -- What holds of every scripted database.
-use Rattle.std.specs.Prelude.{◌≡◌, ℕ, ◌≤◌, List, [], ◌∷◌, Option, Some, None, All, ⊤}
+use Rattle.std.specs.Prelude.{◌≡◌, ℕ, ◌≤◌, List, [], ◌∷◌, Option, Some, None, All, ⊤, true}
 use Rattle.cs_place.specs.declared.part.Part.{Part}
 use Rattle.cs_schema.specs.declared.types.Stream.{Stream}
+use Rattle.cs_schema.specs.declared.types.Table.{Table}
 use Rattle.cs_txn.specs.declared.txn.Modification.{Modification}
 use Rattle.cs_txn.specs.Fits.{HaveNames, IsHistoryOf}
 use Rattle.cs_partitions.specs.Layout.{StreamParts}
 use Rattle.cs_script.specs.Database.{Database, writes_at}
+use Rattle.cs_script.specs.Members.{is_id}
+use Rattle.cs_script.specs.Named.{IsTableName}
 
 -- a stamp is not above the last moment
 abbrev pub IsBy : Option ℕ → ℕ → Type 0
@@ -37,8 +40,12 @@ AreLayoutsOf (s ∷ ss) (l ∷ ls) = IsLayoutOf s l × AreLayoutsOf ss ls
 pub record IsKept (db : Database) : Type 0 where
   -- no table has a name with a byte 00
   pub names : HaveNames db.tables
+  -- each has one that the grammar has
+  pub table_names : All (λ (t : Table). IsTableName t.name) db.tables
   -- the modifications are of rows of the catalog
   pub fits : IsHistoryOf db.tables db.modifications
+  -- each transaction has an id
+  pub ids : All (λ (m : Modification). is_id m.tx ≡ true) db.modifications
   -- each stream has one layout, which has its name and begins at its creation
   pub layouts : AreLayoutsOf db.streams db.layouts
   -- a stamp has at most 1,024 writes

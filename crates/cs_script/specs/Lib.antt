@@ -8,6 +8,7 @@ pub mod Borders
 pub mod Database
 pub mod Line
 pub mod Takes
+pub mod Named
 pub mod Kept
 pub mod Script
 pub mod Progress

@@ -2,7 +2,6 @@
 use Rattle.std.specs.Prelude.{◌≡◌, ℕ, ◌+◌, ◌==◌, List, [], ◌∷◌, ◌++◌, length, slice_get, slice_set, Bool, true, false, nat_lt, if◌then◌else◌, Option, Some, None, Result, Ok, Err, MatchResult}
 use Rattle.std.specs.Str.Lossy.{utf8_lossy}
 use Rattle.cs_types.specs.declared.moment.StampFault.{StampFault}
-use Rattle.cs_types.specs.Database.{IsName}
 use Rattle.cs_types.specs.Stamp.{Spells, IsStampFault}
 use Rattle.cs_types.specs.Token.{is_token}
 use Rattle.cs_ddl.specs.declared.fault.SyntaxFault.{SyntaxFault}
@@ -32,6 +31,7 @@ use Rattle.cs_script.specs.Readings.{Reading}
 use Rattle.cs_script.specs.Borders.{stream_place}
 use Rattle.cs_script.specs.Database.{Database, writes_at}
 use Rattle.cs_script.specs.Line.{at_text, tree_of, object_reading}
+use Rattle.cs_script.specs.Named.{IsTableName}
 use Rattle.serde_json.specs.Data.{Data}
 
 -- the tables and the streams of a database
@@ -184,9 +184,9 @@ pub record IsDone (db : Database) (at : ℕ) (action : Action) (out : Reading Da
   pub statement : IsStatementIn action ddl
   pub result : out ≡ done db ddl at action
 
--- the name that a statement gives a table has no byte 00, and that of a stream makes tokens
+-- the name that a statement gives a table is one, and that of a stream makes tokens
 abbrev pub HasNames : Statement → Type 0
-HasNames (CreateTable name columns key) = IsName (utf8_lossy name)
+HasNames (CreateTable name columns key) = IsTableName (utf8_lossy name)
 HasNames (AddColumn table name ty) = Unit {0}
 HasNames (CreateStream name watch options) = is_token (token_of (utf8_lossy name) 0) ≡ true
 HasNames (SetWatch name watch) = Unit {0}

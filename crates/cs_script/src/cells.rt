@@ -1,6 +1,6 @@
 ghost use Rattle.std.specs.Prelude.{◌≡◌, All, IfOk, Ok, Err, MatchResult, option_map, option_copied, None, is_some};
 ghost use Rattle.serde_json.specs.Find.{get, get_member};
-ghost use Rattle.serde_json.specs.View.{view, members_view};
+ghost use Rattle.cs_tree.specs.View.{view, members_view};
 ghost use Rattle.cs_types.specs.Cells.{IsRising, AreCells};
 ghost use Rattle.cs_types.specs.Value.{IsInRange};
 ghost use Rattle.cs_script.specs.Finders.{IsFinder};
@@ -12,8 +12,8 @@ use crate::combine::{Gathered, both};
 use crate::finder::{Finder, column_of, finder_of, is_key};
 use crate::members::bad;
 use cs_schema::Table;
+use cs_tree::{Members, Tree, member};
 use cs_types::{Cell, Cells, Duplicate, Text, Value, ValueFault};
-use serde_json::{Map, Value as Tree};
 use std::alloc::Global;
 
 /// The cell of a column of the table.
@@ -22,22 +22,21 @@ fn cell_of(
     table: &Table,
     finder: &Finder,
     name: &str,
-    tree: &Tree,
+    tree: &Tree<'_>,
 ) -> Result<Cell, LineCause>
     requires { IsFinder table.now finder.now }
     ensures reading { Gives result (cell_reading table.now name.now (view tree.now)) }
     ensures column { IfOk result (λ c. c.column ≡ name.now) }
     ensures in_range { IfOk result (λ c. IsInRange c.value) }
 {
-    let name = Text::of(alloc, name)?;
-    let Some(column) = column_of(table, finder, &name) else {
-        return Err(LineCause::NoColumn(name));
+    let Some(column) = column_of(alloc, table, finder, name)? else {
+        return Err(LineCause::NoColumn(Text::of(alloc, name)?));
     };
     match Value::from_tree(alloc, tree, column.ty) {
-        Ok(value) => Ok(Cell {
-            column: name,
-            value,
-        }),
+        Ok(value) => {
+            let column = column.name.copy()?;
+            Ok(Cell { column, value })
+        }
         Err(ValueFault::Memory) => Err(LineCause::Memory),
         Err(fault) => Err(LineCause::Value(fault)),
     }
@@ -49,52 +48,47 @@ fn key_cell_of(
     table: &Table,
     finder: &Finder,
     name: &str,
-    tree: &Tree,
+    tree: &Tree<'_>,
 ) -> Result<Cell, LineCause>
     requires { IsFinder table.now finder.now }
     ensures reading { Gives result (key_cell_reading table.now name.now (view tree.now)) }
     ensures column { IfOk result (λ c. c.column ≡ name.now) }
     ensures in_range { IfOk result (λ c. IsInRange c.value) }
 {
-    let column = Text::of(alloc, name)?;
-    if !is_key(table, finder, &column) {
-        return Err(LineCause::NoColumn(column));
+    if !is_key(alloc, table, finder, name)? {
+        return Err(LineCause::NoColumn(Text::of(alloc, name)?));
     }
     cell_of(alloc, table, finder, name, tree)
 }
 
 /// The members of an object, which stand in rising order, as cells of the table.
-fn each_cell(alloc: Global, table: &Table, members: &Map<String, Tree>) -> Result<Cells, LineCause>
+fn each_cell(alloc: Global, table: &Table, members: &Members<'_>) -> Result<Cells, LineCause>
     ensures { Gives result (each_cell table.now (members_view members.now.entries)) }
 {
     let finder = finder_of(alloc, table, members.len())?;
     let mut cells = Gathered::new(alloc);
     for (name, tree) in members.iter() {
-        cells = cells.with(cell_of(alloc, table, &finder, name.as_str(), tree))?;
+        cells = cells.with(cell_of(alloc, table, &finder, *name, tree))?;
     }
     let items = cells.finish()?;
     Ok(Cells::in_order(items))
 }
 
 /// The like as cells of the table's key.
-fn each_key_cell(
-    alloc: Global,
-    table: &Table,
-    members: &Map<String, Tree>,
-) -> Result<Cells, LineCause>
+fn each_key_cell(alloc: Global, table: &Table, members: &Members<'_>) -> Result<Cells, LineCause>
     ensures { Gives result (each_key_cell table.now (members_view members.now.entries)) }
 {
     let finder = finder_of(alloc, table, members.len())?;
     let mut cells = Gathered::new(alloc);
     for (name, tree) in members.iter() {
-        cells = cells.with(key_cell_of(alloc, table, &finder, name.as_str(), tree))?;
+        cells = cells.with(key_cell_of(alloc, table, &finder, *name, tree))?;
     }
     let items = cells.finish()?;
     Ok(Cells::in_order(items))
 }
 
 /// That each column of the key has a member; else the first that has none.
-fn has_each(names: &[Text], members: &Map<String, Tree>) -> Result<(), LineCause>
+fn has_each(names: &[Text], members: &Members<'_>) -> Result<(), LineCause>
     ensures { Gives result (has_each names.now (members_view members.now.entries)) }
 {
     for name in names {
@@ -105,7 +99,7 @@ fn has_each(names: &[Text], members: &Map<String, Tree>) -> Result<(), LineCause
     Ok(())
 }
 
-fn has_member(members: &Map<String, Tree>, name: &str) -> bool
+fn has_member(members: &Members<'_>, name: &str) -> bool
     ensures { result ≡ is_some (get_member name.now (members_view members.now.entries)) }
 {
     match member(members, name) {
@@ -114,16 +108,9 @@ fn has_member(members: &Map<String, Tree>, name: &str) -> bool
     }
 }
 
-/// The member of a name.
-fn member<'v>(members: &'v Map<String, Tree>, name: &str) -> Option<&'v Tree>
-    ensures { option_map (λ d. view d.now) result ≡ get_member name.now (members_view members.now.entries) }
-{
-    members.get(name)
-}
-
 /// The cells of a key: one for each of the key's columns and no other.
 #[tactic(auto, unfolding(crate::specs::Cells::key_reading))]
-fn key_of(alloc: Global, table: &Table, members: &Map<String, Tree>) -> Result<Cells, LineCause>
+fn key_of(alloc: Global, table: &Table, members: &Members<'_>) -> Result<Cells, LineCause>
     ensures { Gives result (key_reading table.now (members_view members.now.entries)) }
 {
     let cells = each_key_cell(alloc, table, members);
@@ -136,7 +123,7 @@ fn key_of(alloc: Global, table: &Table, members: &Map<String, Tree>) -> Result<C
 pub(crate) fn key_member(
     alloc: Global,
     table: Option<&Table>,
-    member: Option<&Tree>,
+    member: Option<&Tree<'_>>,
 ) -> Result<Cells, LineCause>
     ensures { Gives result (key_member (option_copied table.entry) (option_map (λ d. view d.now) member.entry)) }
 {
@@ -153,7 +140,7 @@ pub(crate) fn key_member(
 pub(crate) fn set_member(
     alloc: Global,
     table: Option<&Table>,
-    member: Option<&Tree>,
+    member: Option<&Tree<'_>>,
 ) -> Result<Cells, LineCause>
     ensures { Gives result (set_member (option_copied table.entry) (option_map (λ d. view d.now) member.entry)) }
 {

@@ -16,6 +16,7 @@ mod reader;
 mod reshape;
 mod state;
 mod statement;
+mod texts;
 mod writes;
 
 pub use fault::{LineCause, ScriptFault};

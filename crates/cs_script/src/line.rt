@@ -1,6 +1,6 @@
 ghost use Rattle.std.specs.Prelude.{◌≡◌, ◌||◌, false, Some, IfOk, option_map};
 ghost use Rattle.serde_json.specs.Read.{read};
-ghost use Rattle.serde_json.specs.View.{view};
+ghost use Rattle.cs_tree.specs.View.{view};
 ghost use Rattle.cs_txn.specs.History.{last_stamp};
 ghost use Rattle.cs_script.specs.Readings.{Gives};
 ghost use Rattle.cs_script.specs.Members.{no_others};
@@ -13,13 +13,14 @@ use crate::commit::commit_of;
 use crate::members::{bad, has, no_others, required_text, text_of};
 use crate::reshape::reshape_of;
 use crate::{LineCause, ServerState};
-use cs_types::{Memory, Stamp, StampFault};
-use serde_json::Value;
+use cs_tree::{Tree, TreeFault};
+use cs_types::{Json, Memory, Stamp, StampFault, Text};
+use json::Scratch;
 use std::alloc::Global;
 
 /// Which of the three stands; the first of several, and of none.
 #[tactic(auto, unfolding(crate::specs::Line::word_of))]
-fn word_of(tree: &Value) -> Word
+fn word_of(tree: &Tree<'_>) -> Word
     ensures { result ≡ word_of (view tree.now) }
 {
     if has(tree, "ddl") {
@@ -35,7 +36,7 @@ fn word_of(tree: &Value) -> Word
 }
 
 /// That a line has no members but `at` and that of its kind.
-fn no_other_members(alloc: Global, word: Word, tree: &Value) -> Result<(), LineCause>
+fn no_other_members(alloc: Global, word: Word, tree: &Tree<'_>) -> Result<(), LineCause>
     ensures { Gives result (no_others (line_members word) (view tree.now)) }
 {
     match word {
@@ -46,7 +47,7 @@ fn no_other_members(alloc: Global, word: Word, tree: &Value) -> Result<(), LineC
 }
 
 /// That neither `system` nor `excluded` stands in a commit.
-fn built(tree: &Value) -> Result<(), LineCause>
+fn built(tree: &Tree<'_>) -> Result<(), LineCause>
     ensures { Gives result (built (view tree.now)) }
 {
     let Some(commit) = tree.get("commit") else {
@@ -62,7 +63,7 @@ fn built(tree: &Value) -> Result<(), LineCause>
 }
 
 /// What the text of `at` is read as; where there is none, anything.
-pub(crate) fn told_of(tree: &Value) -> Result<Stamp, StampFault>
+pub(crate) fn told_of(tree: &Tree<'_>) -> Result<Stamp, StampFault>
     ensures { IsMomentOf (at_text (view tree.now)) result }
 {
     let Some(member) = tree.get("at") else {
@@ -105,7 +106,7 @@ fn moment_of(
     state: &ServerState,
     word: Word,
     told: Result<Stamp, StampFault>,
-    tree: &Value,
+    tree: &Tree<'_>,
 ) -> Result<Stamp, LineCause>
     ensures reading { Gives result (moment_reading state.now word told (at_text (view tree.now))) }
     ensures order { IfOk result (λ at. is_back state.now.last at ≡ false) }
@@ -121,19 +122,32 @@ fn moment_of(
     }
 }
 
+/// The tag of the last commit; none before the first.
+fn last_tag(state: &ServerState) -> Option<&Text> {
+    match state.history().modifications() {
+        [.., last] => Some(&last.tag),
+        [] => None,
+    }
+}
+
 /// What a line of a kind says beside its moment.
 fn action_of(
     alloc: Global,
     state: &ServerState,
     word: Word,
-    tree: &Value,
+    tree: &Tree<'_>,
 ) -> Result<Action, LineCause>
     ensures { Gives result (action_reading state.now word (view tree.now)) }
 {
     match word {
         Word::Ddl => Ok(Action::Ddl(required_text(alloc, tree, "ddl")?)),
         Word::Commit => match tree.get("commit") {
-            Some(commit) => Ok(Action::Commit(commit_of(alloc, state.catalog().tables(), commit)?)),
+            Some(commit) => Ok(Action::Commit(commit_of(
+                alloc,
+                state.catalog().tables(),
+                last_tag(state),
+                commit,
+            )?)),
             None => Err(bad(alloc, "commit")),
         },
         Word::Reshape => match tree.get("reshape") {
@@ -149,7 +163,7 @@ pub(crate) fn object_of(
     alloc: Global,
     state: &ServerState,
     told: Result<Stamp, StampFault>,
-    tree: &Value,
+    tree: &Tree<'_>,
 ) -> Result<(Stamp, Action), LineCause>
     ensures reading { Gives result (object_reading state.now told (view tree.now)) }
     ensures order { IfOk result (λ p. is_back state.now.last p.0 ≡ false) }
@@ -165,35 +179,34 @@ pub(crate) fn object_of(
 
 /// The object that a line is; None where it is none.
 #[tactic(auto, using(crate::proofs::Trees::no_text, crate::proofs::Trees::of_text))]
-pub(crate) fn tree_of(alloc: Global, line: &[u8]) -> Result<Option<Value>, Memory>
+pub(crate) fn tree_of<'a>(
+    alloc: Global,
+    line: &'a [u8],
+    scratch: &'a mut Scratch,
+) -> Result<Option<Tree<'a>>, Memory>
     ensures { IfOk result (λ o. option_map view o ≡ tree_of line.now) }
 {
     let Ok(text) = str::from_utf8(line) else {
         return Ok(None);
     };
-    text_tree(alloc, text)
+    text_tree(alloc, text, scratch)
 }
 
-fn text_tree(alloc: Global, text: &str) -> Result<Option<Value>, Memory>
+fn text_tree<'a>(
+    alloc: Global,
+    text: &'a str,
+    scratch: &'a mut Scratch,
+) -> Result<Option<Tree<'a>>, Memory>
     ensures { IfOk result (λ o. option_map view o ≡ object_of (read text.now)) }
 {
-    match Value::from_str(alloc, text) {
-        Ok(tree) => Ok(object(tree)),
-        Err(error) => {
-            if error.is_memory() {
-                Err(Memory)
-            } else {
-                Ok(None)
+    match cs_tree::tree_of(alloc, text, scratch) {
+        Ok(tree) => {
+            if tree.is_object() {
+                return Ok(Some(tree));
             }
+            Ok(None)
         }
+        Err(TreeFault::NotJson) => Ok(None),
+        Err(TreeFault::Memory) => Err(Memory),
     }
-}
-
-fn object(tree: Value) -> Option<Value>
-    ensures { option_map view result ≡ object_of (Some (view tree)) }
-{
-    if tree.is_object() {
-        return Some(tree);
-    }
-    None
 }

@@ -1,13 +1,14 @@
 ghost use Rattle.std.specs.Prelude.{◌≡◌, IfOk, option_map, map, bytes_eq, codes, Ok, Err, MatchResult};
 ghost use Rattle.serde_json.specs.Find.{get, as_str, as_object};
-ghost use Rattle.serde_json.specs.View.{view, items_view, members_view};
+ghost use Rattle.cs_tree.specs.View.{view, items_view, members_view};
 ghost use Rattle.cs_script.specs.Readings.{Gives, not_memory};
 ghost use Rattle.cs_script.specs.Members.{required, id_value, is_id, is_tag, tag_of, tokens_value, token_value, each_token, is_listed, first_other, no_others, has};
 ghost use Rattle.cs_script.specs.declared.fault.LineCause.TheVariants.{Member};
 
 use crate::LineCause;
-use cs_types::{Items, Memory, Text, Token, are_token_bytes};
-use serde_json::{Map, Value};
+use crate::texts::shared;
+use cs_tree::{Members, Tree};
+use cs_types::{Items, Json, Memory, Text, Token, are_token_bytes};
 use std::alloc::Global;
 
 /// How many bytes an id and a tag have at most.
@@ -24,7 +25,7 @@ pub(crate) fn bad(alloc: Global, name: &str) -> LineCause
 }
 
 /// Whether a member stands.
-pub(crate) fn has(tree: &Value, name: &str) -> bool
+pub(crate) fn has(tree: &Tree<'_>, name: &str) -> bool
     ensures { result ≡ has name.now (view tree.now) }
 {
     match tree.get(name) {
@@ -34,7 +35,11 @@ pub(crate) fn has(tree: &Value, name: &str) -> bool
 }
 
 /// The text of a member that must be one.
-pub(crate) fn text_of<'a>(alloc: Global, tree: &'a Value, name: &str) -> Result<&'a str, LineCause>
+pub(crate) fn text_of<'a>(
+    alloc: Global,
+    tree: &'a Tree<'_>,
+    name: &str,
+) -> Result<&'a str, LineCause>
     ensures { MatchResult result (λ text. required as_str name.now (view tree.now) ≡ Ok text.now) (λ e. not_memory e → required as_str name.now (view tree.now) ≡ Err e) }
 {
     let Some(member) = tree.get(name) else {
@@ -47,7 +52,7 @@ pub(crate) fn text_of<'a>(alloc: Global, tree: &'a Value, name: &str) -> Result<
 }
 
 /// The text of a member that must be one, as a text of its own.
-pub(crate) fn required_text(alloc: Global, tree: &Value, name: &str) -> Result<Text, LineCause>
+pub(crate) fn required_text(alloc: Global, tree: &Tree<'_>, name: &str) -> Result<Text, LineCause>
     ensures { Gives result (required as_str name.now (view tree.now)) }
 {
     let text = text_of(alloc, tree, name)?;
@@ -62,7 +67,7 @@ fn is_id(text: &[u8]) -> bool
 }
 
 /// The id of a transaction.
-pub(crate) fn required_id(alloc: Global, tree: &Value) -> Result<Text, LineCause>
+pub(crate) fn required_id(alloc: Global, tree: &Tree<'_>) -> Result<Text, LineCause>
     ensures { Gives result (required id_value (codes "id") (view tree.now)) }
 {
     let text = text_of(alloc, tree, "id")?;
@@ -79,12 +84,17 @@ fn is_tag(text: &[u8]) -> bool
     text.len() <= MOST_BYTES
 }
 
-/// The tag of a transaction, which may be absent.
-pub(crate) fn tag_of(alloc: Global, tree: &Value) -> Result<Text, LineCause>
+/// The tag of a transaction, which may be absent. It shares the bytes of the last one where both
+/// are the same.
+pub(crate) fn tag_of(
+    alloc: Global,
+    last_tag: Option<&Text>,
+    tree: &Tree<'_>,
+) -> Result<Text, LineCause>
     ensures { Gives result (tag_of (get (codes "tag") (view tree.now))) }
 {
     let Some(member) = tree.get("tag") else {
-        return Ok(Text::of(alloc, "")?);
+        return Ok(shared(alloc, "", last_tag)?);
     };
     let Some(text) = member.as_str() else {
         return Err(bad(alloc, "tag"));
@@ -92,11 +102,11 @@ pub(crate) fn tag_of(alloc: Global, tree: &Value) -> Result<Text, LineCause>
     if !is_tag(text.as_bytes()) {
         return Err(bad(alloc, "tag"));
     }
-    Ok(Text::of(alloc, text)?)
+    Ok(shared(alloc, text, last_tag)?)
 }
 
 /// The tokens of the member `parts`.
-pub(crate) fn required_tokens(alloc: Global, tree: &Value) -> Result<Items<Token>, LineCause>
+pub(crate) fn required_tokens(alloc: Global, tree: &Tree<'_>) -> Result<Items<Token>, LineCause>
     ensures { Gives result (required tokens_value (codes "parts") (view tree.now)) }
 {
     let Some(member) = tree.get("parts") else {
@@ -105,13 +115,13 @@ pub(crate) fn required_tokens(alloc: Global, tree: &Value) -> Result<Items<Token
     let Some(trees) = member.as_array() else {
         return Err(bad(alloc, "parts"));
     };
-    match each_token(alloc, trees.as_slice())? {
+    match each_token(alloc, trees)? {
         Some(tokens) => Ok(tokens),
         None => Err(bad(alloc, "parts")),
     }
 }
 
-fn each_token(alloc: Global, trees: &[Value]) -> Result<Option<Items<Token>>, Memory>
+fn each_token(alloc: Global, trees: &[Tree<'_>]) -> Result<Option<Items<Token>>, Memory>
     ensures { IfOk result (λ o. o ≡ each_token (items_view trees.now)) }
 {
     let mut tokens = Items::new(alloc);
@@ -124,7 +134,7 @@ fn each_token(alloc: Global, trees: &[Value]) -> Result<Option<Items<Token>>, Me
     Ok(Some(tokens))
 }
 
-fn token_of(alloc: Global, tree: &Value) -> Result<Option<Token>, Memory>
+fn token_of(alloc: Global, tree: &Tree<'_>) -> Result<Option<Token>, Memory>
     ensures { IfOk result (λ o. o ≡ token_value (view tree.now)) }
 {
     let Some(text) = tree.as_str() else {
@@ -156,27 +166,27 @@ fn is_listed(name: &str, known: &[&'static str]) -> bool
 /// That an object has no members but those listed; else the first other one.
 pub(crate) fn no_others(
     alloc: Global,
-    tree: &Value,
+    tree: &Tree<'_>,
     known: &[&'static str],
 ) -> Result<(), LineCause>
     ensures { Gives result (no_others (map (λ s. s.now) known.now) (view tree.now)) }
 {
     match tree {
-        Value::Object(members) => first_other(alloc, members, known),
+        Tree::Object(members) => first_other(alloc, members, known),
         _ => Ok(()),
     }
 }
 
 fn first_other(
     alloc: Global,
-    members: &Map<String, Value>,
+    members: &Members<'_>,
     known: &[&'static str],
 ) -> Result<(), LineCause>
     ensures { Gives result (first_other (map (λ s. s.now) known.now) (members_view members.now.entries)) }
 {
     for (name, _) in members.iter() {
-        if !is_listed(name.as_str(), known) {
-            return Err(bad(alloc, name.as_str()));
+        if !is_listed(*name, known) {
+            return Err(bad(alloc, *name));
         }
     }
     Ok(())

@@ -3,6 +3,7 @@ ghost use Rattle.std.specs.Prelude.{◌≡◌, ◌≢◌, ◌<◌, ◌+◌, ◌�
 ghost use Rattle.cs_script.specs.Script.{without_return, fault_of};
 
 use crate::{LineCause, ScriptFault, ServerState};
+use json::Scratch;
 use memchr::memchr;
 use std::alloc::Global;
 
@@ -15,6 +16,8 @@ pub(crate) struct Reader {
     /// How many lines were taken.
     pub lines: u64,
     pub line: Vec<u8>,
+    /// What reading a line needs.
+    pub scratch: Scratch,
 }
 
 /// The place of the first end of a line.
@@ -55,6 +58,7 @@ impl Reader {
             state: ServerState::new(alloc),
             lines: 0,
             line: Vec::new(alloc),
+            scratch: Scratch::new(alloc),
         }
     }
 
@@ -116,7 +120,10 @@ impl Reader {
         ensures own { IfErr result (λ e. e ≢ ScriptFault.SourceFault) }
     {
         self.lines = self.lines.saturating_add(1);
-        match self.state.line(without_return(&self.line)) {
+        match self
+            .state
+            .take_line(without_return(&self.line), &mut self.scratch)
+        {
             Ok(()) => {}
             Err(cause) => return Err(line_fault(self.lines, cause)),
         }
@@ -130,9 +137,15 @@ impl Reader {
         ensures refused { (given : List ℕ) → HasRead self given → length given ≤ most_bytes → IfErr result (IsRefused given) }
         ensures own { IfErr result (λ e. e ≢ ScriptFault.SourceFault) }
     {
-        let Reader { state, lines, line } = self;
+        let Reader {
+            state,
+            lines,
+            line,
+            scratch,
+        } = self;
         let mut state = state;
-        match state.line(&line) {
+        let mut scratch = scratch;
+        match state.take_line(&line, &mut scratch) {
             Ok(()) => Ok(state),
             Err(cause) => Err(line_fault(lines.saturating_add(1), cause)),
         }

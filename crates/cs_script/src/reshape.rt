@@ -1,5 +1,5 @@
 ghost use Rattle.std.specs.Prelude.{◌≡◌, ◌<◌, ℕ, List, Ok, length, IfSome};
-ghost use Rattle.serde_json.specs.View.{view};
+ghost use Rattle.cs_tree.specs.View.{view};
 ghost use Rattle.cs_script.specs.Readings.{Reading, Gives};
 ghost use Rattle.cs_script.specs.Borders.{stream_place, named_stream, reshape_reading};
 
@@ -9,8 +9,8 @@ use crate::borders::borders_member;
 use crate::combine::both;
 use crate::members::{bad, no_others, required_text, required_tokens};
 use cs_schema::{Catalog, Stream};
+use cs_tree::Tree;
 use cs_types::Text;
-use serde_json::Value;
 use std::alloc::Global;
 
 /// The place of the first stream of a name. There are at most 10 streams.
@@ -45,7 +45,7 @@ fn named_stream(streams: &[Stream], name: Result<Text, LineCause>) -> Result<Tex
 pub(crate) fn reshape_of(
     alloc: Global,
     catalog: &Catalog,
-    tree: &Value,
+    tree: &Tree<'_>,
 ) -> Result<Reshape, LineCause>
     ensures { Gives result (reshape_reading catalog.now.tables catalog.now.streams (view tree.now)) }
 {

@@ -1,5 +1,5 @@
-ghost use Rattle.std.specs.Prelude.{◌≡◌, ◌≤◌, ◌++◌, ◌∷◌, false, Ok, Err, Some, None, OnOk, OnErr, IfErr};
-ghost use Rattle.serde_json.specs.View.{view};
+ghost use Rattle.std.specs.Prelude.{◌≡◌, ◌≤◌, ◌++◌, ◌∷◌, false, true, Ok, Err, Some, None, OnOk, OnErr, IfErr};
+ghost use Rattle.cs_tree.specs.View.{view};
 ghost use Rattle.cs_schema.specs.declared.fault.SchemaFault.{SchemaFault};
 ghost use Rattle.cs_schema.specs.Applying.{first_fault as schema_fault, applied};
 ghost use Rattle.cs_schema.specs.Growing.{Grows};
@@ -16,6 +16,8 @@ ghost use Rattle.cs_script.specs.Borders.{stream_place};
 ghost use Rattle.cs_script.specs.Database.{no_database, writes_at};
 ghost use Rattle.cs_script.specs.Kept.{IsKept};
 ghost use Rattle.cs_script.specs.Line.{is_back};
+ghost use Rattle.cs_script.specs.Members.{is_id};
+ghost use Rattle.cs_script.specs.Named.{HasId};
 ghost use Rattle.cs_script.specs.Readings.{not_memory};
 ghost use Rattle.cs_script.specs.Takes.{Takes, IsTakenTree, IsDone, HasNames, schema_of, applied_unless, committed, reshaped_in, txn_of};
 
@@ -27,9 +29,10 @@ use crate::statement::layouts_made;
 use cs_ddl::{Statement, SyntaxFault, parse_ddl};
 use cs_partitions::{Layout, LayoutFault, names_make_tokens};
 use cs_schema::{Catalog, SchemaFault};
+use cs_tree::Tree;
 use cs_txn::{History, Txn, TxnFault, what_fits_lasts};
 use cs_types::{Duplicate, Stamp, Text};
-use serde_json::Value;
+use json::Scratch;
 use std::alloc::Global;
 use std::marker::Model;
 
@@ -110,20 +113,34 @@ impl ServerState {
         ensures refused { IfErr result (λ e. not_memory e → Takes self.old line.now (Err e)) }
         ensures err { OnErr result (self.new ≡ self.old) }
     {
+        let mut scratch = Scratch::new(*self.layouts.allocator());
+        self.take_line(line, &mut scratch)
+    }
+
+    /// The like, in room that is kept from line to line.
+    pub(crate) fn take_line<'a>(
+        &mut self,
+        line: &'a [u8],
+        scratch: &'a mut Scratch,
+    ) -> Result<(), LineCause>
+        ensures taken { OnOk result (Takes self.old line.now (Ok self.new)) }
+        ensures refused { IfErr result (λ e. not_memory e → Takes self.old line.now (Err e)) }
+        ensures err { OnErr result (self.new ≡ self.old) }
+    {
         let alloc = *self.layouts.allocator();
         match line {
             [] => return Ok(()),
             [b'#', ..] => return Ok(()),
             _ => {}
         }
-        match tree_of(alloc, line)? {
+        match tree_of(alloc, line, scratch)? {
             Some(tree) => self.take(alloc, &tree),
             None => Err(LineCause::NotJson),
         }
     }
 
     /// Takes the object that a line is.
-    fn take(&mut self, alloc: Global, tree: &Value) -> Result<(), LineCause>
+    fn take(&mut self, alloc: Global, tree: &Tree<'_>) -> Result<(), LineCause>
         ensures taken { OnOk result (IsTakenTree self.old (view tree.now) (Ok self.new)) }
         ensures refused { IfErr result (λ e. not_memory e → IsTakenTree self.old (view tree.now) (Err e)) }
         ensures err { OnErr result (self.new ≡ self.old) }
@@ -135,7 +152,8 @@ impl ServerState {
 
     /// Does what a line says at a moment that may follow.
     fn act(&mut self, alloc: Global, at: Stamp, action: Action) -> Result<(), LineCause>
-        requires { is_back self.old.last at ≡ false }
+        requires order { is_back self.old.last at ≡ false }
+        requires id { HasId action }
         ensures done { OnOk result (IsDone self.old at action (Ok self.new)) }
         ensures refused { IfErr result (λ e. not_memory e → IsDone self.old at action (Err e)) }
         ensures err { OnErr result (self.new ≡ self.old) }
@@ -198,7 +216,8 @@ impl ServerState {
 
     /// Commits a transaction.
     fn commit(&mut self, at: Stamp, commit: Commit) -> Result<(), LineCause>
-        requires { is_back self.old.last at ≡ false }
+        requires order { is_back self.old.last at ≡ false }
+        requires id { is_id commit.id ≡ true }
         ensures done { OnOk result (committed self.old (txn_of at commit) ≡ Ok self.new) }
         ensures refused { IfErr result (λ e. not_memory e → committed self.old (txn_of at commit) ≡ Err e) }
         ensures err { OnErr result (self.new ≡ self.old) }

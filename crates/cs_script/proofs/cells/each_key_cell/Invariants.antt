@@ -1,5 +1,5 @@
 use Rattle.std.proofs.Common.{◌≡◌, None}
-use Rattle.serde_json.specs.View.{members_view}
+use Rattle.cs_tree.specs.View.{members_view}
 use Rattle.cs_script.specs.Readings.{behind}
 use Rattle.cs_script.specs.Cells.{each_key_cell}
 use Rattle.cs_script.specs.Gathering.{HasNames}

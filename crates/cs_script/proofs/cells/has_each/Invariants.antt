@@ -1,5 +1,5 @@
 use Rattle.std.proofs.Common.{◌≡◌, drop}
-use Rattle.serde_json.specs.View.{members_view}
+use Rattle.cs_tree.specs.View.{members_view}
 use Rattle.cs_script.specs.Cells.{has_each}
 use Rattle.cs_script.proofs.cells.has_each.Given as goal
 

@@ -1,4 +1,4 @@
-use Rattle.std.proofs.Common.{◌≤◌, ◌∙◌, IfOk, IfErr, Ok, Err, arith, sym}
+use Rattle.std.proofs.Common.{◌≤◌, ◌∙◌, [], IfOk, IfErr, Ok, Err, arith, sym}
 use Rattle.cs_script.specs.Script.{most_bytes, Makes, of_script}
 use Rattle.cs_script.proofs.Advancing.{short_makes, refused_makes, long_makes}
 use Rattle.cs_script.proofs.Doing.{if_ok, if_err}
@@ -76,3 +76,11 @@ returns-clause-refused g c =
 pub returns-clause-read : goal.returns-clause-read
 returns-clause-read g c =
     read_of (g.S.Source.left c.args.source.now) (g.S.Source.left c.pieces.source) c.pieces.invariant.given.0 c.pieces.invariant.given.1.taken (omega (arith, c.pieces.invariant.given.1.count, c.pieces.invariant.total))
+
+pub returns-in_default-clause-read : goal.returns-in_default-clause-read
+returns-in_default-clause-read g c =
+    read_more (g.S.Source.left c.args.source.now) (g.S.Source.left c.pieces.source) (g.S.Source.left c.read_piece.new.source) c.pieces.reader c.pieces.total c.pieces.invariant.given.0 [] 0
+    c.pieces.invariant.given.1 c.in_default.ensures.kept (omega (arith, c.pieces.invariant.total))
+
+pub returns-in-Err-clause-object : goal.returns-in-Err-clause-object
+returns-in-Err-clause-object g c = g.met.S.Source.same_then _ _ _ c.pieces.invariant.object c.in-Ok.ensures.object

@@ -1,5 +1,5 @@
 use Rattle.std.proofs.Common.{◌≡◌, drop}
-use Rattle.serde_json.specs.View.{items_view}
+use Rattle.cs_tree.specs.View.{items_view}
 use Rattle.cs_script.specs.Members.{each_token, tokens_behind}
 use Rattle.cs_script.proofs.members.each_token.Given as goal
 

@@ -1,5 +1,5 @@
 use Rattle.std.proofs.Common.{◌≡◌, map}
-use Rattle.serde_json.specs.View.{members_view}
+use Rattle.cs_tree.specs.View.{members_view}
 use Rattle.cs_script.specs.Members.{first_other}
 use Rattle.cs_script.proofs.members.first_other.Given as goal
 

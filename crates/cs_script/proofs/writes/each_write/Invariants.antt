@@ -1,5 +1,5 @@
 use Rattle.std.proofs.Common.{◌≡◌, drop}
-use Rattle.serde_json.specs.View.{items_view}
+use Rattle.cs_tree.specs.View.{items_view}
 use Rattle.cs_script.specs.Readings.{behind}
 use Rattle.cs_script.specs.Writes.{each_write}
 use Rattle.cs_script.proofs.writes.each_write.Given as goal

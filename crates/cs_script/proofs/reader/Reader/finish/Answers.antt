@@ -7,7 +7,7 @@ use Rattle.cs_script.proofs.reader.Reader.finish.Goals as goal
 
 pub returns-in-Ok-clause-read : goal.returns-in-Ok-clause-read
 returns-in-Ok-clause-read c = λ given read short.
-    last_read c.args.self given c.line.new.self read (subst (λ (l : List ℕ). Takes c.args.self.state l (Ok c.line.new.self)) c.deref.ensures.value c.in-Ok.ensures.taken)
+    last_read c.args.self given c.take_line.new.self read (subst (λ (l : List ℕ). Takes c.args.self.state l (Ok c.take_line.new.self)) c.deref.ensures.value c.in-Ok.ensures.taken)
 
 pub returns-clause-refused : goal.returns-clause-refused
 returns-clause-refused c = λ given read short.

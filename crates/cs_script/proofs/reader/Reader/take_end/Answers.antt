@@ -19,4 +19,4 @@ pub returns-clause-given : goal.returns-clause-given
 returns-clause-given c = λ before read short.
     let cut : c.without_return.result.now ≡ without_return c.args.self.now.line.items = c.without_return.ensures ∙ ap without_return c.deref.ensures.value in
     let number : c.saturating_add-self.result ≡ suc c.args.self.now.lines = omega (arith, c.saturating_add-self.ensures, read.count, short, length-append before (10 ∷ [])) in
-    end_read c.args.self.now _ before read (subst (λ (l : List ℕ). Takes c.args.self.now.state l (Ok c.line.new.self)) cut c.in-Ok.ensures.taken) number c.clear.ensures.items
+    end_read c.args.self.now _ before read (subst (λ (l : List ℕ). Takes c.args.self.now.state l (Ok c.take_line.new.self)) cut c.in-Ok.ensures.taken) number c.clear.ensures.items

@@ -33,13 +33,13 @@ invariant_of-self-2 c =
     let room : writes_at c.args.at c.args.self.now.modifications + length c.args.commit.writes ≤ 1024 =
     omega (arith, c.if-count-writes.false, c.writes_at-writes.ensures.writes, c.writes_at-writes.ensures.few, ap length c.as_slice-count.ensures) in
     let same : writes_at c.args.at c.self.inside.history ≡ writes_at c.args.at c.args.self.now.modifications = ap (λ (d : Database). writes_at c.args.at d.modifications) c.self.view_is in
-    let order : is_back c.self.inside.last c.args.at ≡ false = ap (λ (d : Database). is_back d.last c.args.at) c.self.view_is ∙ c.requires in
+    let order : is_back c.self.inside.last c.args.at ≡ false = ap (λ (d : Database). is_back d.last c.args.at) c.self.view_is ∙ c.requires.order in
     let done = c.in_ok-commit_to.ensures.done in
     let txn = txn_of c.args.at c.args.commit in
     let added = modifications_of c.self.inside.catalog.tables c.self.inside.history txn in
     let fits : IsHistoryOf c.self.inside.catalog.tables (c.self.inside.history ++ added) = subst (IsHistoryOf c.self.inside.catalog.tables) done.1 (c.in_ok-commit_to.ensures.fits c.self.invariant.0.fits) in
     let kept = kept_commit (record { tables = c.self.inside.catalog.tables; streams = c.self.inside.catalog.streams; modifications = c.self.inside.history; layouts = c.self.inside.layouts.items; last = c.self.inside.last })
-    txn c.self.invariant.0 order (omega (arith, same, room)) fits in (
+    txn c.self.invariant.0 order c.requires.id (omega (arith, same, room)) fits in (
       subst (λ ms. IsKept (record { tables = c.self.inside.catalog.tables; streams = c.self.inside.catalog.streams; modifications = ms; layouts = c.self.inside.layouts.items; last = Some c.args.at })) (sym done.1) kept,
       omega (arith, c.writes_at-writes.ensures.writes, same, ap length c.as_slice-count.ensures, ap (writes_at c.args.at) done.1, writes_of_both c.args.at c.self.inside.history added, writes_new c.self.inside.catalog.tables c.self.inside.history txn c.args.commit.writes),
     )

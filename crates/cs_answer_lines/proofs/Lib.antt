@@ -1,0 +1,9 @@
+mod Captured
+mod Columns
+mod Cuts
+mod Kept
+mod Listed
+mod Members
+mod Runs
+mod Transactions
+mod WholeAnswer

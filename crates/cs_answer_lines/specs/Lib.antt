@@ -1,0 +1,2 @@
+pub mod StepLine
+pub mod Writable

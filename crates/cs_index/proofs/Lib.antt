@@ -1,0 +1,13 @@
+mod Apart
+mod Columns
+mod Counts
+mod Ending
+mod Filters
+mod Finishing
+mod Lows
+mod Rules
+mod Sources
+mod Stamps
+mod Touching
+mod Walking
+mod Whole

@@ -1,0 +1,9 @@
+mod Accepted
+mod ByLow
+mod Groups
+mod Laid
+mod Members
+mod Named
+mod Openings
+mod Sources
+mod Taken

@@ -1,0 +1,13 @@
+//! A line of JSON as a tree whose texts are those of the line. It stands for what `serde_json`
+//! reads, and takes no memory for a text.
+#![tactic(auto)]
+
+mod fault;
+mod form;
+mod number;
+mod read;
+mod tree;
+
+pub use fault::TreeFault;
+pub use read::tree_of;
+pub use tree::{Members, Tree, member};
