@@ -4,7 +4,7 @@ use Rattle.cs_ddl.specs.declared.tree.ReadQuery.{ReadQuery}
 use Rattle.cs_link.specs.declared.reading.Step.{Step}
 use Rattle.cs_script.specs.Database.{Database}
 use Rattle.cs_answer_lines.specs.StepLine.{step_text}
-use Rattle.cs_read.specs.Answer.{answer_steps}
+use Rattle.cs_read.specs.Answers.{answer_steps}
 
 -- the line of a step, with its end
 abbrev pub line_text : Step → List ℕ

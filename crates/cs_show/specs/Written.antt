@@ -1,11 +1,16 @@
--- What stands on a console where not all lines of an answer were written, this project's own.
-use Rattle.std.specs.Prelude.{◌≡◌, ◌<◌, ℕ, List, length, take, Option}
+-- Lines that can be written, and what stands on a console where not all of them were, this project's own.
+use Rattle.std.specs.Prelude.{◌≡◌, ◌<◌, ℕ, List, All, length, take, Option}
 use Rattle.std.specs.Io.KnownBytes.{Appends}
 use Rattle.cs_device.specs.Causes.{Rose}
 use Rattle.cs_link.specs.declared.reading.Step.{Step}
+use Rattle.cs_answer_lines.specs.StepLine.{CanStandAs}
 use Rattle.cs_show.specs.Lines.{lines_text}
 use Rattle.cs_show.specs.declared.shown.ShowFault.{ShowFault}
 use Rattle.cs_show.specs.declared.shown.ShowFault.TheVariants.{Console, Memory}
+
+-- a line can stand for each of the steps
+abbrev pub CanStandAll : List Step → Type 0
+CanStandAll steps = All CanStandAs steps
 
 -- the lines of the first steps, not of all
 pub record IsCut (steps : List Step) (old new : Option (List ℕ)) : Type 0 where

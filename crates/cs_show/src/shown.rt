@@ -1,17 +1,19 @@
-ghost use Rattle.std.specs.Prelude.{◌≡◌, ◌≤◌, ◌<◌, None, IfOk, IfErr, OnOk, MatchResult, length, string_bytes};
+ghost use Rattle.std.specs.Prelude.{◌≡◌, ◌≤◌, ◌<◌, ℕ, None, Some, IfOk, IfErr, OnOk, MatchResult, length, slice_get, string_bytes};
 ghost use Rattle.std.specs.Io.KnownBytes.{Appends};
 ghost use Rattle.cs_link.specs.declared.reading.Step.{Step as AStep};
-ghost use Rattle.cs_read.specs.Answer.{read_refusal, answer_steps};
+ghost use Rattle.cs_partitions.specs.Layout.{StreamParts};
+ghost use Rattle.cs_read.specs.Answers.{read_refusal, answer_steps};
 ghost use Rattle.cs_steps.specs.Cursor.{IsAt};
 ghost use Rattle.cs_steps.specs.Query.{Tells};
 ghost use Rattle.cs_answer_lines.specs.StepLine.{CanStandAs};
 ghost use Rattle.cs_show.specs.Lines.{line_text, lines_text};
-ghost use Rattle.cs_show.specs.Written.{IsUnwritten, IsStepFault};
+ghost use Rattle.cs_show.specs.Written.{CanStandAll, IsUnwritten, IsStepFault};
 
-use cs_answer_lines::{answers_can_stand, step_line};
+use cs_answer_lines::{answers_can_stand, scripts_can_stand, step_line};
 use cs_ddl::ReadQuery;
 use cs_device::Sink;
 use cs_link::Step;
+use cs_partitions::Layout;
 use cs_read::{Answer, read};
 use cs_script::ServerState;
 use cs_steps::ReadFault;
@@ -52,13 +54,15 @@ pub struct Shown {
 impl Model for Shown {
     ghost use Rattle.std.specs.Prelude.{List};
     ghost use Rattle.cs_link.specs.declared.reading.Step.{Step};
-    ghost use Rattle.cs_read.specs.Answer.{answer_steps, IsAnswer};
+    ghost use Rattle.cs_read.specs.Answers.{answer_steps};
+    ghost use Rattle.cs_read.specs.Whole.{IsAnswer};
+    ghost use Rattle.cs_show.specs.Written.{CanStandAll};
 
     ghost Value = { List Step };
 
     ghost view = { λ s. answer_steps s.state s.query s.moment };
 
-    ghost invariant = { λ s. IsAnswer s.state s.query s.moment s.answer };
+    ghost invariant = { λ s. IsAnswer s.state (answer_steps s.state s.query s.moment) s.answer × CanStandAll (answer_steps s.state s.query s.moment) };
 }
 
 impl Shown {
@@ -74,6 +78,7 @@ impl Shown {
         ensures refused { MatchResult result (λ _. read_refusal state query moment ≡ None) (λ e. Tells (read_refusal state query moment) e) }
         ensures shown { IfOk result (λ s. s ≡ answer_steps state query moment) }
     {
+        lines_stand(&state, &query, moment);
         match read(alloc, &state, &query, moment) {
             Ok(answer) => Ok(Shown {
                 state,
@@ -132,9 +137,28 @@ impl Shown {
         ensures step { IfOk result (IsAt self.now index) }
         ensures stands { IfOk result CanStandAs }
     {
-        let _stands = answers_can_stand();
-        let _kept = self.state.catalog();
+        let _each = answers_can_stand();
         self.answer.step(alloc, &self.state, index)
+    }
+}
+
+/// For each step that answers a query over a database a line can stand.
+fn lines_stand(state: &ServerState, query: &ReadQuery, moment: Stamp)
+    ensures { CanStandAll (answer_steps state.now query.now moment) }
+{
+    let _answers = answers_can_stand();
+    let _script = scripts_can_stand();
+    let _sound = state.catalog().streams();
+    let _rules = state.history().modifications();
+    few_parts(state.layouts());
+}
+
+/// No layout has more parts than the greatest number of them.
+fn few_parts(layouts: &[Layout])
+    ensures { (k : ℕ) (l : StreamParts) → slice_get layouts.now k ≡ Some l → length l.parts ≤ 65536 }
+{
+    for index in 0..layouts.len() {
+        let _parts = layouts[index].parts();
     }
 }
 

@@ -1,18 +1,14 @@
 -- What stands on the console behind what there was to say.
 use Rattle.std.proofs.Common.{◌≡◌, ◌≢◌, ◌⊎◌, ℕ, List, ◌++◌, take, Option, None, Some, refl, sym, ap, subst, inl, inr, ◌∙◌, append_assoc}
 use Rattle.std.specs.Io.KnownBytes.{Appends}
-use Rattle.cs_ddl.specs.declared.tree.ReadQuery.{ReadQuery}
 use Rattle.cs_link.specs.declared.reading.Step.{Step}
-use Rattle.cs_read.specs.Answer.{answer_steps}
 use Rattle.cs_show.specs.Lines.{lines_text}
 use Rattle.cs_show.specs.Written.{IsCut}
-use Rattle.cs_words.specs.Words.{IsCommand}
 use Rattle.cs_words.specs.declared.command.Command.{Command}
 use Rattle.cs_words.specs.declared.command.Command.TheVariants.{Replay, Check, Show, Gen}
-use Rattle.cs_tool.specs.Database.{OnScript}
-use Rattle.cs_tool.specs.Run.{OnCommand, SaidAtEnd, SaidInPart, IsSaid}
+use Rattle.cs_tool.specs.Run.{SaidAtEnd, SaidInPart, IsSaid}
 use Rattle.cs_tool.specs.Said.{status_said, text_said, IsWritten, AreStepsOf, IsDue}
-use Rattle.cs_tool.specs.Show.{IsRead, IsCutOff, AreShown, shown_text}
+use Rattle.cs_tool.specs.Show.{IsCutOff, shown_text}
 use Rattle.cs_tool.specs.Status.{status_line}
 use Rattle.cs_tool.specs.declared.status.Status.{Status}
 use Rattle.cs_tool.specs.declared.status.Status.TheVariants.{Ended, Verdict, RetentionPassed, Refused, OutputFault, SourceFault, ConsoleFault, BadWords, BadScript, OutputNotEmpty, BadOutput, Memory}

@@ -9,7 +9,7 @@ use Rattle.cs_words.specs.Words.{IsCommand}
 use Rattle.cs_words.specs.declared.command.Command.{Command}
 use Rattle.cs_tool.specs.Answers.{KeepsFilled, IsShowStatus, IsPastScript}
 use Rattle.cs_tool.specs.Database.{OnScript, IsBadScript}
-use Rattle.cs_tool.specs.Run.{OnCommand, IsPastWords}
+use Rattle.cs_tool.specs.Run.{OnCommand}
 use Rattle.cs_tool.specs.Said.{status_said, IsShown}
 use Rattle.cs_tool.specs.Show.{IsRead, IsReadTooOld, IsReadRefused, IsShowFault}
 use Rattle.std.specs.Prelude.{IfSome}

@@ -5,8 +5,8 @@ use Rattle.cs_device.specs.Causes.{Rose}
 use Rattle.cs_link.specs.declared.reading.Step.{Step}
 use Rattle.cs_link.specs.declared.refusal.ReadRefusal.{ReadRefusal}
 use Rattle.cs_script.specs.Database.{Database}
-use Rattle.cs_read.specs.Answer.{read_refusal, answer_steps}
-use Rattle.cs_show.specs.Lines.{lines_text, answer_text}
+use Rattle.cs_read.specs.Answers.{read_refusal, answer_steps}
+use Rattle.cs_show.specs.Lines.{lines_text}
 use Rattle.cs_tool.specs.Database.{OnScript, IsBadScript}
 use Rattle.cs_tool.specs.Status.{status_line}
 use Rattle.cs_tool.specs.declared.status.Status.{Status}

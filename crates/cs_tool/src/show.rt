@@ -1,6 +1,5 @@
 // The answer to a query at a moment.
 ghost use Rattle.std.specs.Prelude.{◌≤◌, IfOk, IfErr};
-ghost use Rattle.cs_script.specs.Database.{Database};
 ghost use Rattle.cs_tool.specs.Said.{IsShown};
 ghost use Rattle.cs_tool.specs.Show.{AreShown, IsReadFault, IsStatusOf};
 

@@ -1,5 +1,5 @@
 // The query of a READ among the words of a command line.
-ghost use Rattle.std.specs.Prelude.{◌≡◌, ℕ, List, Some, map, string_bytes, slice_get, IfOk, IfErr};
+ghost use Rattle.std.specs.Prelude.{map, string_bytes, IfOk, IfErr};
 ghost use Rattle.cs_words.specs.Words.{IsQueryAt, IsNoQueryAt};
 
 use crate::WordsFault;

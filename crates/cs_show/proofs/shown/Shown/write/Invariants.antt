@@ -1,4 +1,4 @@
-use Rattle.std.proofs.Common.{◌≡◌, length, take}
+use Rattle.std.proofs.Common.{◌≡◌, take}
 use Rattle.std.specs.Io.KnownBytes.{Appends}
 use Rattle.cs_show.specs.Lines.{lines_text}
 use Rattle.cs_show.proofs.shown.Shown.write.Given as goal

@@ -1,0 +1,54 @@
+-- A line can stand for each step of an answer.
+use Rattle.std.proofs.Common.{◌≡◌, ◌≤◌, ℕ, List, length, Option, None, Some, IfSome, All, slice_get, refl}
+use Rattle.cs_place.specs.declared.part.Part.{Part}
+use Rattle.cs_ddl.specs.declared.tree.Argument.{Argument}
+use Rattle.cs_ddl.specs.declared.tree.ReadQuery.{ReadQuery}
+use Rattle.cs_schema.specs.declared.types.Stream.{Stream}
+use Rattle.cs_schema.specs.declared.types.Table.{Table}
+use Rattle.cs_partitions.specs.Layout.{StreamParts}
+use Rattle.cs_partitions.specs.Reshape.{part_named}
+use Rattle.cs_txn.specs.declared.txn.Modification.{Modification}
+use Rattle.cs_link.specs.declared.reading.ReadArgs.{ReadArgs}
+use Rattle.cs_steps.specs.Captures.{IsKept, captured_items}
+use Rattle.cs_steps.specs.Query.{stream_read}
+use Rattle.cs_script.specs.Database.{Database}
+use Rattle.cs_read.specs.Asked.{asked_of, steps_of_named, steps_by_token, steps_asked}
+use Rattle.cs_read.specs.Answers.{StreamRead, at, read_of, read_asked, stream_steps, answer_steps}
+use Rattle.cs_answer_lines.specs.StepLine.{CanStandAs}
+use Rattle.cs_answer_lines.specs.Writable.{AreWritable, PartCanStand, StartCanStand}
+
+none_some : {A : Type 0} {x : A} → None ≡ Some x → ⊥
+none_some e = cc
+
+-- no layout has too many parts
+abbrev pub AreFew : List StreamParts → Type 0
+AreFew layouts = (k : ℕ) (l : StreamParts) → slice_get layouts k ≡ Some l → length l.parts ≤ 65536
+
+few_at : (layouts : List StreamParts) → AreFew layouts → (place : Option ℕ) (l : StreamParts) → at place layouts ≡ Some l → length l.parts ≤ 65536
+few_at layouts few None l e = absurd (none_some e)
+few_at layouts few (Some place) l e = few place l e
+
+few_of : (s : Option Stream) (l : Option StreamParts) (arguments : List Argument) → ((x : StreamParts) → l ≡ Some x → length x.parts ≤ 65536) → IfSome (read_of s l arguments) (λ r. length r.parts ≤ 65536)
+few_of None l arguments few = tt
+few_of (Some s) None arguments few = tt
+few_of (Some s) (Some l) arguments few = few l refl
+
+module _ (part : PartCanStand) (start : StartCanStand) where
+  named_stand : (tables : List Table) (streams : List Stream) (stream : Stream) (ms : List Modification) (parts : List Part) (args : ReadArgs) (moment : ℕ) → IsKept tables streams ms → AreWritable tables ms → length parts ≤ 65536
+      → (found : Option Part) → All CanStandAs (steps_of_named parts (captured_items tables stream ms) args moment found)
+  named_stand tables streams stream ms parts args moment kept writable few None = tt
+  named_stand tables streams stream ms parts args moment kept writable few (Some found) = part tables streams stream ms parts (asked_of args moment found) kept writable few
+
+  token_stand : (tables : List Table) (streams : List Stream) (stream : Stream) (ms : List Modification) (parts : List Part) (args : ReadArgs) (moment : ℕ) → IsKept tables streams ms → AreWritable tables ms → length parts ≤ 65536
+      → (token : Option (List ℕ)) → All CanStandAs (steps_by_token parts (captured_items tables stream ms) args moment token)
+  token_stand tables streams stream ms parts args moment kept writable few None = start parts args.start few
+  token_stand tables streams stream ms parts args moment kept writable few (Some token) = named_stand tables streams stream ms parts args moment kept writable few (part_named token parts)
+
+  stream_stand : (db : Database) → IsKept db.tables db.streams db.modifications → AreWritable db.tables db.modifications → (r : Option StreamRead) → IfSome r (λ x. length x.parts ≤ 65536) → (moment : ℕ)
+      → All CanStandAs (stream_steps db r moment)
+  stream_stand db kept writable None few moment = tt
+  stream_stand db kept writable (Some r) few moment = token_stand db.tables db.streams r.stream db.modifications r.parts r.args moment kept writable few r.args.token
+
+  pub all_stand : (db : Database) → IsKept db.tables db.streams db.modifications → AreWritable db.tables db.modifications → AreFew db.layouts → (query : ReadQuery) (moment : ℕ) → All CanStandAs (answer_steps db query moment)
+  all_stand db kept writable few query moment = stream_stand db kept writable (read_asked db query)
+      (few_of (at (stream_read query.function db.streams) db.streams) (at (stream_read query.function db.streams) db.layouts) query.arguments (few_at db.layouts few (stream_read query.function db.streams))) moment
