@@ -19,7 +19,7 @@ use std::marker::Model;
 
 /// A stream with its index, which contracts see as what its READs speak of. Nothing of what the
 /// stream captured is laid out: each change is captured again where it is asked for.
-#[derive(Clone, Copy)]
+#[derive(Drop)]
 pub struct IndexedStream<'a> {
     catalog: &'a Catalog,
     stream: &'a Stream,

@@ -1,22 +1,25 @@
 ghost use Rattle.std.specs.Prelude.{◌≡◌, ◌<◌, ◌≤◌, [], None, Some, IfOk, MatchResult, OnErr, cond, length};
 ghost use Rattle.cs_place.specs.declared.part.Part.{Part as part};
-ghost use Rattle.cs_steps.specs.Cursor.{IsAt};
+ghost use Rattle.cs_link.specs.declared.reading.Step.{Step as AStep};
+ghost use Rattle.cs_steps.specs.Cursor.{IsAt, IsStep};
 ghost use Rattle.cs_steps.specs.Honest.{IsAccepted};
 ghost use Rattle.cs_steps.specs.Query.{Tells};
 ghost use Rattle.cs_steps.specs.Refusals.{refusal_by};
 ghost use Rattle.cs_steps.specs.Steps.{children_of, steps_of_part, steps_of_start};
 ghost use Rattle.cs_read.specs.Asked.{asked_of, steps_asked};
-ghost use Rattle.cs_read.specs.Content.{IsReading, GivesNext, steps_ahead};
+ghost use Rattle.cs_read.specs.Content.{IsReading, GivesNext, source_read, steps_ahead};
+ghost use Rattle.cs_read.specs.Laid.{AreSteps};
 
 use crate::IndexedStream;
 use crate::children::{children, list_count, live_at};
+use crate::laying::{LaidStep, steps_laid};
 use crate::spans::{children_from, closing_of, has_ended, span_of, top_of};
 use crate::steps::{Material, step};
 use cs_link::{Closing, ReadArgs, Step};
 use cs_partitions::Layout;
 use cs_place::Part;
 use cs_records::Child;
-use cs_steps::{Cursor, ReadFault, steps_are_those_of_the_records};
+use cs_steps::{Cursor, ReadFault, StepPlace, steps_are_those_of_the_records};
 use cs_types::{Items, Memory, Stamp, Token};
 use std::alloc::Global;
 
@@ -66,20 +69,45 @@ impl Reading {
         ensures gives { GivesNext result (steps_ahead of.now self.old) (steps_ahead of.now self.new) }
         ensures err { OnErr result (self.new ≡ self.old) }
     {
-        let lines = of.lines(self.part);
         let mut cursor = self.cursor;
-        let Some(place) = cursor.advance(lines.records) else {
+        let Some(place) = cursor.advance(of.lines(self.part).records) else {
             return Ok(None);
         };
+        let step = self.step_at(alloc, of, &place)?;
+        self.cursor = cursor;
+        Ok(Some(step))
+    }
+
+    /// The step at a place of the answer.
+    pub(crate) fn step_at(
+        &self,
+        alloc: Global,
+        of: &IndexedStream<'_>,
+        place: &StepPlace,
+    ) -> Result<Step, Memory>
+        requires reading { IsReading of.now self.now }
+        requires there { (x : AStep) × IsStep (source_read of.now self.now) place.now x }
+        ensures { (x : AStep) → IsStep (source_read of.now self.now) place.now x → IfOk result (λ y. y ≡ x) }
+    {
         let material = Material {
             of,
-            lines,
+            lines: of.lines(self.part),
             start: self.start,
             children: self.children.as_slice(),
         };
-        let step = step(alloc, &material, &place)?;
-        self.cursor = cursor;
-        Ok(Some(step))
+        step(alloc, &material, place)
+    }
+
+    /// The places of all steps that are left.
+    pub(crate) fn laid(
+        &self,
+        alloc: Global,
+        of: &IndexedStream<'_>,
+    ) -> Result<Items<LaidStep>, Memory>
+        requires { IsReading of.now self.now }
+        ensures { IfOk result (λ laid. AreSteps (source_read of.now self.now) laid (steps_ahead of.now self.now)) }
+    {
+        steps_laid(alloc, self.cursor, of.lines(self.part).records)
     }
 }
 
