@@ -12,11 +12,7 @@ use std::alloc::Global;
 const CHILDREN: usize = 1024;
 
 /// The parts that follow on the part at a place, in order of low.
-pub(crate) fn children(
-    alloc: Global,
-    layout: &Layout,
-    place: usize,
-) -> Result<Items<Child>, Memory>
+pub(crate) fn children(alloc: Global, layout: &Layout, place: usize) -> Result<Items<Child>, Memory>
     requires { place < length layout.now.parts }
     ensures children { (d : part) → IfOk result (λ l. l ≡ children_of layout.now.parts (slice_index_or layout.now.parts place d)) }
     ensures few { IfOk result (λ l. length l ≤ 65536) }
@@ -45,11 +41,7 @@ fn child_of(part: Part) -> Child
 }
 
 /// The parts that are live at a moment, in order of low, without parents.
-pub(crate) fn live_at(
-    alloc: Global,
-    layout: &Layout,
-    moment: Stamp,
-) -> Result<Items<Child>, Memory>
+pub(crate) fn live_at(alloc: Global, layout: &Layout, moment: Stamp) -> Result<Items<Child>, Memory>
     ensures children { IfOk result (λ l. l ≡ live_at layout.now.parts moment) }
     ensures few { IfOk result (λ l. length l ≤ 65536) }
 {

@@ -63,11 +63,7 @@ impl Reading {
 
     /// The next step; None exactly where none is left. After `Memory` the READ is what it was. It
     /// takes the time of a few comparisons, and what the step costs itself.
-    pub fn next(
-        &mut self,
-        alloc: Global,
-        of: &IndexedStream<'_>,
-    ) -> Result<Option<Step>, Memory>
+    pub fn next(&mut self, alloc: Global, of: &IndexedStream<'_>) -> Result<Option<Step>, Memory>
         requires { IsReading of.now self.old }
         ensures reading { IsReading of.now self.new }
         ensures gives { GivesNext result (steps_ahead of.now self.old) (steps_ahead of.now self.new) }
