@@ -1,4 +1,5 @@
 mod Accepted
+mod Answered
 mod ByLow
 mod Groups
 mod Laid
@@ -6,4 +7,5 @@ mod Members
 mod Named
 mod Openings
 mod Sources
+mod States
 mod Taken

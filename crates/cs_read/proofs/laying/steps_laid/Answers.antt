@@ -1,4 +1,4 @@
-use Rattle.std.proofs.Common.{◌≡◌, ◌≤◌, ◌∙◌, List, [], ◌∷◌, ◌++◌, length, sym, subst, arith}
+use Rattle.std.proofs.Common.{List, sym, subst, arith}
 use Rattle.cs_steps.specs.Cursor.{steps_left}
 use Rattle.cs_read.specs.declared.laying.LaidStep.{LaidStep}
 use Rattle.cs_read.specs.Laid.{LaidOut}

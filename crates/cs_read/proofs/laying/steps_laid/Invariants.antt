@@ -1,4 +1,4 @@
-use Rattle.std.proofs.Common.{◌≡◌, ℕ, ◌≤◌, length}
+use Rattle.std.proofs.Common.{◌≤◌, length}
 use Rattle.cs_steps.specs.Cursor.{Source, HaveStamps, IsCursor, most_left, steps_left}
 use Rattle.cs_read.specs.Laid.{LaidOut}
 use Rattle.cs_read.proofs.laying.steps_laid.Given as goal

@@ -1,15 +1,14 @@
-use Rattle.std.proofs.Common.{◌≡◌, ◌∙◌, ℕ, ◌*◌, List, [], Option, Some, length, cond, slice_get, refl, sym, ap, subst}
+use Rattle.std.proofs.Common.{◌≡◌, ◌∙◌, ◌*◌, List, [], Option, Some, length, cond, slice_get, sym, ap, subst}
 use Rattle.std.proofs.lemmas.Option.{slice_get-get_or}
 use Rattle.cs_place.specs.declared.part.Part.{Part}
 use Rattle.cs_records.specs.declared.records.Child.{Child}
 use Rattle.cs_records.specs.declared.records.DataRecord.{DataRecord}
 use Rattle.cs_link.specs.Reading.{end_of}
-use Rattle.cs_link.specs.declared.reading.Closing.{Closing}
-use Rattle.cs_steps.specs.Cursor.{Source, HaveStamps, IsCursor, IsAt, closing_of, source_of, steps_from, steps_left}
+use Rattle.cs_steps.specs.Cursor.{Source, IsAt, closing_of, steps_from}
 use Rattle.cs_steps.specs.Records.{data_records}
 use Rattle.cs_steps.specs.Steps.{Asked, child_groups, children_of, has_ended, last_moment, top_of}
 use Rattle.cs_read.specs.Asked.{asked_of}
-use Rattle.cs_read.specs.Content.{records_in, part_at, source_read}
+use Rattle.cs_read.specs.Content.{records_in, part_at}
 use Rattle.cs_read.proofs.Openings.{opened_as}
 use Rattle.cs_read.proofs.reading.of_part.Goals as goal
 

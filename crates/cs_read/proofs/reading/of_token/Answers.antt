@@ -1,7 +1,7 @@
 use Rattle.std.proofs.Common.{◌≡◌, ◌∙◌, ◌<◌, List, length, None, Some, sym, ap, subst, Option, arith}
 use Rattle.std.proofs.lemmas.Result.{IfOk-weaker}
 use Rattle.cs_place.specs.declared.part.Part.{Part}
-use Rattle.cs_partitions.specs.Reshape.{index_named, part_named}
+use Rattle.cs_partitions.specs.Reshape.{index_named}
 use Rattle.cs_steps.specs.Cursor.{IsAt}
 use Rattle.cs_steps.specs.Honest.{IsAccepted}
 use Rattle.cs_steps.specs.Steps.{steps_of_part}

@@ -1,4 +1,4 @@
-use Rattle.std.proofs.Common.{◌≡◌, ◌<◌, ◌∙◌, ℕ, List, Option, Some, None, length, get_or, sym, ap, subst}
+use Rattle.std.proofs.Common.{◌≡◌, ◌<◌, ◌∙◌, ℕ, List, Some, None, length, get_or, sym, ap, subst}
 use Rattle.cs_records.specs.declared.captured.Captured.{Captured}
 use Rattle.cs_capture.specs.Captured.{captured}
 use Rattle.cs_steps.specs.Captures.{captured_items}

@@ -1,4 +1,4 @@
-use Rattle.std.proofs.Common.{◌≡◌, ◌<◌, ◌∙◌, List, Option, Some, ℕ, length, get_or, IfSome, sym, ap, subst, arith}
+use Rattle.std.proofs.Common.{◌<◌, ◌∙◌, List, Option, Some, ℕ, length, get_or, IfSome, sym, ap, subst, arith}
 use Rattle.cs_index.specs.declared.types.PartIndex.{PartIndex}
 use Rattle.cs_steps.specs.Captures.{captured_items}
 use Rattle.cs_steps.specs.Cursor.{IsAt}
