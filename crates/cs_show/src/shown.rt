@@ -1,7 +1,6 @@
-ghost use Rattle.std.specs.Prelude.{◌≡◌, ◌≤◌, ◌<◌, ℕ, None, Some, IfOk, IfErr, OnOk, MatchResult, length, slice_get, string_bytes};
+ghost use Rattle.std.specs.Prelude.{◌≡◌, ◌≤◌, ◌<◌, None, IfOk, IfErr, OnOk, MatchResult, length, string_bytes};
 ghost use Rattle.std.specs.Io.KnownBytes.{Appends};
 ghost use Rattle.cs_link.specs.declared.reading.Step.{Step as AStep};
-ghost use Rattle.cs_partitions.specs.Layout.{StreamParts};
 ghost use Rattle.cs_read.specs.Answers.{read_refusal, answer_steps};
 ghost use Rattle.cs_steps.specs.Cursor.{IsAt};
 ghost use Rattle.cs_steps.specs.Query.{Tells};
@@ -13,8 +12,7 @@ use cs_answer_lines::{answers_can_stand, scripts_can_stand, step_line};
 use cs_ddl::ReadQuery;
 use cs_device::Sink;
 use cs_link::Step;
-use cs_partitions::Layout;
-use cs_read::{Answer, read};
+use cs_read::{Answer, read, states_are_kept};
 use cs_script::ServerState;
 use cs_steps::ReadFault;
 use cs_types::{Memory, Stamp};
@@ -142,24 +140,13 @@ impl Shown {
     }
 }
 
-/// For each step that answers a query over a database a line can stand.
+/// A line can stand for each step that answers a query over a database.
 fn lines_stand(state: &ServerState, query: &ReadQuery, moment: Stamp)
     ensures { CanStandAll (answer_steps state.now query.now moment) }
 {
     let _answers = answers_can_stand();
     let _script = scripts_can_stand();
-    let _sound = state.catalog().streams();
-    let _rules = state.history().modifications();
-    few_parts(state.layouts());
-}
-
-/// No layout has more parts than the greatest number of them.
-fn few_parts(layouts: &[Layout])
-    ensures { (k : ℕ) (l : StreamParts) → slice_get layouts.now k ≡ Some l → length l.parts ≤ 65536 }
-{
-    for index in 0..layouts.len() {
-        let _parts = layouts[index].parts();
-    }
+    states_are_kept(state);
 }
 
 /// The line of a step, with its end.
