@@ -4,6 +4,7 @@
 
 mod audits;
 mod commits;
+mod loads;
 mod records;
 mod stories;
 mod tables;
@@ -18,6 +19,7 @@ const HELP: &str = "usage:
   commit N         makes N commits to one table
   audit N          audits the output of N commits
   fill             fills a history to its limit
+  load FILE        loads a script
 and of each line of a file
   lines FILE       reads a record, and writes it back
   changes FILE     reads a record, and writes the changes that it tells
@@ -65,6 +67,7 @@ fn answer_of(rt: &HostRuntime, words: &[String]) -> Result<String, Trouble> {
 fn answer_on(rt: &HostRuntime, command: &str, of: &str) -> Result<String, Trouble> {
     match command {
         "commit" | "audit" => numbered(rt.alloc(), command, of),
+        "load" => loads::loaded(rt, of),
         _ => {
             let text = content(rt, of)?;
             answer_to(rt.alloc(), command, text.as_str())

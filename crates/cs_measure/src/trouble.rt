@@ -24,6 +24,8 @@ pub enum Trouble {
     Transaction,
     /// A transaction that is too large is not refused as such.
     Limit,
+    /// A script is refused.
+    Script,
     /// Two changes cannot be told apart.
     Changes,
     /// An output is not read back, or is not found to be complete.
@@ -42,6 +44,7 @@ impl fmt::Display for Trouble {
             Trouble::Cells => "cells are refused",
             Trouble::Transaction => "a transaction is refused",
             Trouble::Limit => "a transaction that is too large is not refused as such",
+            Trouble::Script => "a script is refused",
             Trouble::Changes => "two changes cannot be told apart",
             Trouble::Output => "the output is not read back, or is not found to be complete",
             Trouble::Memory => "memory was wanting",
