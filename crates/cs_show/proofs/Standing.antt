@@ -1,6 +1,6 @@
 -- A line can stand for each step of an answer.
 use Rattle.std.proofs.Common.{◌≡◌, ◌≤◌, ℕ, zero, suc, List, [], ◌∷◌, length, Option, None, Some, IfSome, slice_get, refl, subst}
-use Rattle.std.specs.Prelude.{All}
+use Rattle.std.specs.Prelude.{All, Result, Ok, Err, IfOk}
 use Rattle.std.proofs.lemmas.List.Elements.{All-nil, All-head, All-tail}
 use Rattle.cs_place.specs.declared.part.Part.{Part}
 use Rattle.cs_ddl.specs.declared.tree.Argument.{Argument}
@@ -11,7 +11,9 @@ use Rattle.cs_partitions.specs.Layout.{StreamParts, IsLayout}
 use Rattle.cs_partitions.specs.Reshape.{part_named}
 use Rattle.cs_txn.specs.declared.txn.Modification.{Modification}
 use Rattle.cs_link.specs.declared.reading.ReadArgs.{ReadArgs}
+use Rattle.cs_link.specs.declared.reading.Step.{Step}
 use Rattle.cs_steps.specs.Captures.{IsKept, captured_items}
+use Rattle.cs_steps.specs.Cursor.{IsAt}
 use Rattle.cs_steps.specs.Query.{stream_read}
 use Rattle.cs_script.specs.Database.{Database}
 use Rattle.cs_read.specs.Asked.{asked_of, steps_of_named, steps_by_token, steps_asked}
@@ -61,3 +63,8 @@ module _ (part : PartCanStand) (start : StartCanStand) where
   pub all_stand : (db : Database) → IsKept db.tables db.streams db.modifications → AreWritable db.tables db.modifications → All IsLayout db.layouts → (query : ReadQuery) (moment : ℕ) → All CanStandAs (answer_steps db query moment)
   all_stand db kept writable all query moment = stream_stand db kept writable (read_asked db query)
       (few_of (at (stream_read query.function db.streams) db.streams) (at (stream_read query.function db.streams) db.layouts) query.arguments (few_at db.layouts all (stream_read query.function db.streams))) moment
+
+-- a line can stand for the step at a place, where it is given
+pub stands_at : {E : Type 0} (all : List Step) (k : ℕ) (r : Result Step E) → IfOk r (λ x. IsAt all k x) → ((x : Step) → IsAt all k x → CanStandAs x) → IfOk r CanStandAs
+stands_at all k (Ok x) at each = each x at
+stands_at all k (Err e) at each = tt

@@ -1,7 +1,7 @@
-use Rattle.std.proofs.Common.{add-one, sym, subst, take, ◌∙◌}
+use Rattle.std.proofs.Common.{◌≤◌, ap, length, add-one, sym, subst, take, ◌∙◌, arith}
 use Rattle.std.specs.Io.KnownBytes.{Appends}
 use Rattle.cs_show.specs.Lines.{lines_text}
-use Rattle.cs_show.proofs.Written.{more_written}
+use Rattle.cs_show.proofs.Written.{all_written, more_written, unwritten}
 use Rattle.cs_show.proofs.shown.Shown.write.Goals as goal
 
 pub loop-index-preserved : goal.loop-index-preserved
@@ -11,3 +11,16 @@ loop-index-preserved g c = record {
   calm = c.in-Ok.ensures.calm ∙ c.loop-index.invariant.calm;
   object = g.met.W.Sink.same_then _ _ _ c.loop-index.invariant.object c.write_step.ensures.object;
 }
+
+pub write_step-requires : goal.write_step-requires
+write_step-requires g c = omega (arith, c.loop-index-test.true, c.steps-count.ensures _ _ c.self.invariant.0, ap length c.self.view_is)
+
+pub returns-in-Err-clause-cause : goal.returns-in-Err-clause-cause
+returns-in-Err-clause-cause g c =
+    unwritten c.args.self.now c.loop-index.index _ _ _ _ _ _ c.in-Err.fault
+    (omega (arith, c.loop-index-test.true, c.steps-count.ensures _ _ c.self.invariant.0, ap length c.self.view_is)) c.loop-index.invariant.lines c.loop-index.invariant.calm c.in-Err.ensures.cause
+
+pub returns-clause-written : goal.returns-clause-written
+returns-clause-written g c =
+    let end : length c.args.self.now ≤ c.loop-index.index = omega (arith, c.loop-index-test.false, c.steps-count.ensures _ _ c.self.invariant.0, ap length c.self.view_is) in
+    all_written c.args.self.now c.loop-index.index _ _ end c.loop-index.invariant.lines
