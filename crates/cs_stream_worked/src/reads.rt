@@ -1,7 +1,7 @@
 use cs_ddl::parse_query;
 use cs_link::ReadRefusal;
-use cs_steps::{ReadFault, read_args};
 use cs_schema::{Stream, Watch};
+use cs_steps::{ReadFault, read_args};
 use cs_types::{CaptureType, Items, Memory, Stamp, Text};
 use std::alloc::Global;
 use std::test::Fail;
