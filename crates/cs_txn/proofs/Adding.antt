@@ -1,8 +1,11 @@
 -- What a transaction's modifications add to ids and stamps.
-use Rattle.std.proofs.Common.{◌≡◌, ◌∙◌, sym, ap, refl, ℕ, List, [], ◌∷◌, ◌++◌, Some, cond, false, true, Bool, is_some, nat_cmp}
+use Rattle.std.proofs.Common.{◌≡◌, ◌∙◌, sym, ap, refl, ℕ, List, [], ◌∷◌, ◌++◌, Some, cond, false, true, Bool, is_some, nat_cmp, ◌==◌}
 use Rattle.std.specs.declared.option.Option.{Option}
-use Rattle.std.specs.Cmp.Lexicographic.{slice_cmp}
-use Rattle.std.specs.BTreeMap.{BTreeMap, get, is_at}
+use Rattle.std.specs.Cmp.Lexicographic.{slice_cmp, pointwise}
+use Rattle.std.specs.BTreeMap.{is_at}
+use Rattle.std.specs.HashMap.{HashMap, get}
+use Rattle.std.specs.Map.{lookup}
+use Rattle.std.proofs.lemmas.Map.Text.{is_eq-slice_cmp}
 use Rattle.cs_schema.specs.declared.types.Table.{Table}
 use Rattle.cs_txn.specs.declared.txn.Write.{Write}
 use Rattle.cs_txn.specs.declared.txn.Txn.{Txn}
@@ -36,13 +39,21 @@ swap true false = refl
 swap false true = refl
 swap false false = refl
 
-pub ids_added : (tables : List Table) (m n : BTreeMap (List ℕ) (Unit {0})) (ms : List Modification) (txn : Txn) (ws : List Write) → (modifications_from tables ms txn ws ≡ [] → ⊥)
+-- the map's test of one id is that of the order
+same_text : (a b : List ℕ) → pointwise ◌==◌ a b ≡ is_at (slice_cmp nat_cmp a) b
+same_text a b = sym (is_eq-slice_cmp a b)
+
+pub ids_same : {S : Type 0} (m n : HashMap (List ℕ) (Unit {0}) S) (ms : List Modification) → IdsOf ms m → n.entries ≡ m.entries → IdsOf ms n
+ids_same m n ms h e q = ap (λ es. is_some (lookup (pointwise ◌==◌ q) es)) e ∙ h q
+
+pub ids_added : {S : Type 0} (tables : List Table) (m n : HashMap (List ℕ) (Unit {0}) S) (ms : List Modification) (txn : Txn) (ws : List Write) → (modifications_from tables ms txn ws ≡ [] → ⊥)
     → IdsOf ms m
-    → ((q : List ℕ) → get (slice_cmp nat_cmp) n q ≡ cond (is_at (slice_cmp nat_cmp txn.tx) q) (Some tt) (get (slice_cmp nat_cmp) m q))
+    → ((q : List ℕ) → get (pointwise ◌==◌) n q ≡ cond (pointwise ◌==◌ txn.tx q) (Some tt) (get (pointwise ◌==◌) m q))
     → IdsOf (ms ++ modifications_from tables ms txn ws) n
 ids_added tables m n ms txn [] some h u q = absurd (some refl)
 ids_added tables m n ms txn (w ∷ ws) some h u q =
-    ap is_some (u q) ∙ some_cond (is_at (slice_cmp nat_cmp txn.tx) q) (get (slice_cmp nat_cmp) m q)
+    ap is_some (u q) ∙ some_cond (pointwise ◌==◌ txn.tx q) (get (pointwise ◌==◌) m q)
+    ∙ ap (λ b. cond b true (is_some (get (pointwise ◌==◌) m q))) (same_text txn.tx q)
     ∙ ap (cond (is_at (slice_cmp nat_cmp txn.tx) q) true) (h q)
     ∙ swap (is_at (slice_cmp nat_cmp txn.tx) q) (is_used q ms)
     ∙ sym (used_append q ms (modifications_from tables ms txn (w ∷ ws)) ∙ ap (cond (is_used q ms) true) (used_added tables q ms txn w ws))

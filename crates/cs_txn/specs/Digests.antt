@@ -1,21 +1,28 @@
--- A number for each row, by which rows are ordered first, so that most are told apart by it alone; rows of one number are told apart as rows (this order is this project's own).
-use Rattle.std.specs.Prelude.{ℕ}
-use Rattle.std.specs.declared.cmp.Ordering.{Ordering}
-use Rattle.std.specs.Ordering.{nat_cmp, ordering_then}
-use Rattle.std.specs.Cmp.{IsTotalOrder, nat_cmp_total, on_total, then_total}
+-- A number for each row, by which rows are found: most are told apart by it alone, and rows of one number as rows (this number is this project's own).
+use Rattle.std.specs.Prelude.{ℕ, Bool}
+use Rattle.std.proofs.Common.{ap}
+use Rattle.std.specs.Ordering.{eq_by_cmp}
+use Rattle.std.specs.Cmp.{Equal-is}
 use Rattle.std.specs.List.{fold}
+use Rattle.std.specs.Hash.{HashWrites, Alike, u64}
 use Rattle.std.specs.Hash.FoldHasher.{initial, write, finish}
 use Rattle.cs_types.specs.declared.change.RowName.{RowName}
+use Rattle.cs_types.specs.Exact.{exact_row}
 use Rattle.cs_types.specs.Fed.{row_fed}
-use Rattle.cs_types.specs.Row.{row_cmp, rows_total}
+use Rattle.cs_types.specs.Row.{row_cmp}
 
 -- what std's hasher makes of a row
 unfoldable pub row_digest : RowName → ℕ
 row_digest row = finish (fold write initial (row_fed row))
 
--- by number, and then as rows
-abbrev pub digest_cmp : RowName → RowName → Ordering
-digest_cmp a b = ordering_then (nat_cmp (row_digest a) (row_digest b)) (row_cmp a b)
+-- the test of one row by which a map finds it
+abbrev pub row_eq : RowName → RowName → Bool
+row_eq = eq_by_cmp row_cmp
 
-pub digests_total : IsTotalOrder digest_cmp
-digests_total = then_total (on_total row_digest nat_cmp_total) rows_total
+-- a map of rows hashes the number alone
+abbrev pub digest_fed : RowName → HashWrites
+digest_fed row = u64 (row_digest row)
+
+-- one row has one number, and so gives the same to a hash
+pub digests_fed_alike : Alike (eq_by_cmp row_cmp) digest_fed
+digests_fed_alike = record { fed = λ x y h. ap digest_fed (exact_row x y ((Equal-is (row_cmp x y)).0 h)) }

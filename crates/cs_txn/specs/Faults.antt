@@ -1,8 +1,8 @@
 -- When a transaction is refused, and which refusal is answered: the first of them in their order, at its first write (this project's own rules for scripted transactions).
 use Rattle.std.specs.Prelude.{◌≡◌, ℕ, List, [], ◌∷◌, ◌++◌, Some, None, cond, Bool, true, false, is_some, ◌==◌, nat_lt}
 use Rattle.std.specs.declared.option.Option.{Option}
-use Rattle.std.specs.BTreeMap.{BTreeMap, get}
-use Rattle.cs_types.specs.Row.{row_cmp, same_row}
+use Rattle.std.specs.HashMap.{HashMap, get}
+use Rattle.cs_types.specs.Row.{same_row}
 use Rattle.cs_types.specs.declared.change.RowName.{RowName}
 use Rattle.cs_types.specs.declared.change.Kind.{Kind}
 use Rattle.cs_types.specs.declared.change.Kind.TheVariants.{Insert, Update, Delete}
@@ -33,9 +33,9 @@ abbrev pub twice_behind : List Write → List Write → Option TxnFault
 twice_behind earlier [] = None
 twice_behind earlier (w ∷ ws) = cond (is_named w.row earlier) (Some (RowTwice w.row)) (twice_behind (earlier ++ w ∷ []) ws)
 
--- the map has the rows that these writes name
-abbrev pub NamesOf : List Write → BTreeMap RowName (Unit {0}) → Type 0
-NamesOf ws seen = (row : RowName) → is_some (get row_cmp seen row) ≡ is_named row ws
+-- the map has the rows that these writes name, by keys that are of rows
+abbrev pub NamesOf : {K S : Type 0} → (K → RowName) → List Write → HashMap K (Unit {0}) S → Type 0
+NamesOf {K = K} row ws seen = (key : K) → is_some (get (λ a b. same_row (row a) (row b)) seen key) ≡ is_named (row key) ws
 
 -- an INSERT of a row that is there
 abbrev pub there_if : Kind → RowName → Bool → Option TxnFault

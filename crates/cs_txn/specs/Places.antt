@@ -1,16 +1,15 @@
 -- What the maps beside a history's list hold: for each row the place of its last modification, and the ids that are used.
-use Rattle.std.specs.Prelude.{◌≡◌, ℕ, List, [], ◌∷◌, Some, None, cond, is_some, IsSome, slice_get}
+use Rattle.std.specs.Prelude.{◌≡◌, ◌==◌, ℕ, List, [], ◌∷◌, Some, None, cond, is_some, slice_get}
 use Rattle.std.specs.declared.option.Option.{Option}
-use Rattle.std.specs.Ordering.{nat_cmp}
-use Rattle.std.specs.Cmp.Lexicographic.{slice_cmp}
-use Rattle.std.specs.BTreeMap.{BTreeMap, get}
+use Rattle.std.specs.Cmp.Lexicographic.{pointwise}
+use Rattle.std.specs.HashMap.{HashMap, get}
 use Rattle.cs_types.specs.declared.change.RowName.{RowName}
 use Rattle.cs_types.specs.Row.{same_row}
 use Rattle.std.specs.Option.{option_or}
 use Rattle.cs_schema.specs.Tables.{next_place, flat}
 use Rattle.cs_txn.specs.declared.txn.Write.{Write}
 use Rattle.cs_txn.specs.declared.txn.Modification.{Modification}
-use Rattle.cs_txn.specs.Digests.{digest_cmp}
+use Rattle.cs_txn.specs.Digests.{row_eq}
 use Rattle.cs_txn.specs.History.{is_used}
 
 -- the place of the last modification of a row
@@ -18,9 +17,9 @@ abbrev pub last_place : RowName → List Modification → Option ℕ
 last_place row [] = None
 last_place row (m ∷ ms) = option_or (next_place (last_place row ms)) (cond (same_row m.row row) (Some 0) None)
 
--- the map has of each row the place of its last modification; a row may stand in it with nothing
-abbrev pub PlacesOf : List Modification → BTreeMap RowName (Option ℕ) → Type 0
-PlacesOf ms rows = (row : RowName) → flat (get digest_cmp rows row) ≡ last_place row ms
+-- the map has of each row the place of its last modification
+abbrev pub PlacesOf : {S : Type 0} → List Modification → HashMap RowName ℕ S → Type 0
+PlacesOf ms rows = (row : RowName) → get row_eq rows row ≡ last_place row ms
 
 -- what stands at a place, if there is one
 abbrev pub standing : List Modification → Option ℕ → Option Modification
@@ -38,18 +37,13 @@ rows_of [] = []
 rows_of (w ∷ ws) = w.row ∷ rows_of ws
 
 -- for each row the place that the map has
-abbrev pub lasts_in : BTreeMap RowName (Option ℕ) → List RowName → List (Option ℕ)
+abbrev pub lasts_in : {S : Type 0} → HashMap RowName ℕ S → List RowName → List (Option ℕ)
 lasts_in rows [] = []
-lasts_in rows (r ∷ rs) = flat (get digest_cmp rows r) ∷ lasts_in rows rs
+lasts_in rows (r ∷ rs) = get row_eq rows r ∷ lasts_in rows rs
 
 abbrev pub place_at : List (Option ℕ) → ℕ → Option ℕ
 place_at lasts i = flat (slice_get lasts i)
 
 -- the map has the ids of the transactions
-abbrev pub IdsOf : List Modification → BTreeMap (List ℕ) (Unit {0}) → Type 0
-IdsOf ms ids = (id : List ℕ) → is_some (get (slice_cmp nat_cmp) ids id) ≡ is_used id ms
-
--- each of the rows has a place in the map
-abbrev pub HaveRoom : BTreeMap RowName (Option ℕ) → List RowName → Type 0
-HaveRoom rows [] = Unit {0}
-HaveRoom rows (r ∷ rs) = IsSome (get digest_cmp rows r) × HaveRoom rows rs
+abbrev pub IdsOf : {S : Type 0} → List Modification → HashMap (List ℕ) (Unit {0}) S → Type 0
+IdsOf ms ids = (id : List ℕ) → is_some (get (pointwise ◌==◌) ids id) ≡ is_used id ms

@@ -6,23 +6,26 @@ ghost use Rattle.cs_txn.specs.Sizes.{first_fault};
 
 use crate::refusals::check;
 use crate::row_key::RowKey;
-use crate::rows::{keys_of, lasts, put_all, rooms};
+use crate::rows::{keys_of, lasts, put_all};
 use crate::sizes::{weights, with_added};
 use crate::writes::modifications;
 use crate::{Modification, Txn, TxnFault};
 use cs_schema::Catalog;
 use cs_types::{Duplicate, Text};
 use std::alloc::Global;
-use std::collections::BTreeMap;
+use std::collections::HashMap;
 use std::marker::Model;
 
 /// What committed transactions did to the rows, which contracts see as the list of modifications
-/// in the order of the commits. A commit costs its own writes and a logarithm of what stands.
+/// in the order of the commits. A commit is expected to cost what its own writes cost, however
+/// much stands: rows and ids are found by their hash, and memory grows by doubling. The hash has
+/// no secret, so that rows or ids that somebody chose to share it make a commit as slow as a walk
+/// over them.
 #[derive(Drop)]
 pub struct History {
     items: Vec<Modification>,
-    rows: BTreeMap<RowKey, Option<usize>>,
-    ids: BTreeMap<Text, ()>,
+    rows: HashMap<RowKey, usize>,
+    ids: HashMap<Text, ()>,
     last: u64,
     size: u64,
 }
@@ -48,8 +51,8 @@ impl History {
     {
         History {
             items: Vec::new(alloc),
-            rows: BTreeMap::new(alloc),
-            ids: BTreeMap::new(alloc),
+            rows: HashMap::new(alloc),
+            ids: HashMap::new(alloc),
             last: 0,
             size: 0,
         }
@@ -77,7 +80,9 @@ impl History {
         let keys = keys_of(alloc, txn.writes.as_slice())?;
         let lasts = lasts(alloc, &self.rows, &keys)?;
         let items = self.items.as_slice();
-        check(alloc, tables, &self.ids, self.last, items, &lasts, txn)?;
+        check(
+            alloc, tables, &self.ids, self.last, items, &keys, &lasts, txn,
+        )?;
         let mut added = modifications(alloc, tables, items, txn, &lasts)?;
         let sizes = weights(alloc, added.as_slice())?;
         let size = match with_added(self.size, sizes.as_slice()) {
@@ -88,13 +93,13 @@ impl History {
             return Ok(());
         }
         self.items.reserve(added.len())?;
-        rooms(&mut self.rows, &keys, &lasts)?;
+        self.rows.reserve(keys.len())?;
         self.ids.insert(txn.tx.copy()?, ())?;
         put_all(
             &mut self.rows,
             self.items.as_slice(),
             added.as_slice(),
-            &keys,
+            keys,
         );
         self.last = txn.stamp.us();
         self.size = size;

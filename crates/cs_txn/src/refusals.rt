@@ -1,10 +1,11 @@
 ghost use Rattle.std.specs.Prelude.{◌≡◌, MatchResult, None, Some, []};
-ghost use Rattle.cs_txn.specs.Places.{IdsOf, standing, lasts_of};
+ghost use Rattle.cs_txn.specs.Places.{IdsOf, standing, lasts_of, rows_of};
 ghost use Rattle.cs_txn.specs.History.{last_of, last_stamp};
 ghost use Rattle.cs_txn.specs.Faults.{not_memory, row_fault, write_fault, there_fault, absent_fault, shared_fault, twice_behind};
 ghost use Rattle.cs_types.specs.Firsts.{first_of};
 
 use crate::columns::check_writes;
+use crate::row_key::RowKey;
 use crate::rows::{place_at, standing_at};
 use crate::test::Test;
 use crate::writes::state;
@@ -12,7 +13,7 @@ use crate::{Modification, Txn, TxnFault, Write};
 use cs_schema::Tables;
 use cs_types::{Duplicate, Kind, Stamp, Text};
 use std::alloc::Global;
-use std::collections::BTreeMap;
+use std::collections::HashMap;
 
 /// Whether an INSERT finds no row.
 fn check_insert(items: &[Modification], last: Option<usize>, write: &Write) -> Result<(), TxnFault>
@@ -111,18 +112,18 @@ fn check_stamps(
 }
 
 /// Whether no two writes name one row.
-fn check_rows_differ(alloc: Global, writes: &[Write]) -> Result<(), TxnFault>
+fn check_rows_differ(alloc: Global, keys: &[RowKey], writes: &[Write]) -> Result<(), TxnFault>
+    requires { keys.now ≡ rows_of writes.now }
     ensures { MatchResult result (λ _. twice_behind [] writes.now ≡ None) (λ e. not_memory e → twice_behind [] writes.now ≡ Some e) }
 {
     if let [_] = writes {
         return Ok(());
     }
-    let mut seen = BTreeMap::new(alloc);
-    for write in writes {
-        if seen.contains_key(&write.row) {
-            return Err(TxnFault::RowTwice(write.row.copy()?));
+    let mut seen = HashMap::with_capacity(alloc, keys.len())?;
+    for key in keys {
+        if let Some(_) = seen.insert(key, ())? {
+            return Err(TxnFault::RowTwice(key.row().copy()?));
         }
-        seen.insert(write.row.copy()?, ())?;
     }
     Ok(())
 }
@@ -130,12 +131,14 @@ fn check_rows_differ(alloc: Global, writes: &[Write]) -> Result<(), TxnFault>
 /// The refusals of ids, stamps and rows, in their order.
 fn check_rows(
     alloc: Global,
-    ids: &BTreeMap<Text, ()>,
+    ids: &HashMap<Text, ()>,
     last: u64,
     items: &[Modification],
+    keys: &[RowKey],
     lasts: &[Option<usize>],
     txn: &Txn,
 ) -> Result<(), TxnFault>
+    requires keys { keys.now ≡ rows_of txn.now.writes }
     requires lasts { lasts.now ≡ lasts_of items.now txn.now.writes }
     requires ids { IdsOf items.now ids.now }
     requires last { last ≡ last_stamp items.now }
@@ -148,7 +151,7 @@ fn check_rows(
         return Err(TxnFault::StampBack);
     }
     let writes = txn.writes.as_slice();
-    check_rows_differ(alloc, writes)?;
+    check_rows_differ(alloc, keys, writes)?;
     check_inserts(items, lasts, writes)?;
     check_others(items, lasts, writes)?;
     Ok(())
@@ -158,18 +161,20 @@ fn check_rows(
 pub(crate) fn check(
     alloc: Global,
     tables: &Tables,
-    ids: &BTreeMap<Text, ()>,
+    ids: &HashMap<Text, ()>,
     last: u64,
     items: &[Modification],
+    keys: &[RowKey],
     lasts: &[Option<usize>],
     txn: &Txn,
 ) -> Result<(), TxnFault>
+    requires keys { keys.now ≡ rows_of txn.now.writes }
     requires lasts { lasts.now ≡ lasts_of items.now txn.now.writes }
     requires ids { IdsOf items.now ids.now }
     requires last { last ≡ last_stamp items.now }
     ensures { MatchResult result (λ _. write_fault tables.now items.now txn.now ≡ None) (λ e. not_memory e → write_fault tables.now items.now txn.now ≡ Some e) }
 {
-    check_rows(alloc, ids, last, items, lasts, txn)?;
+    check_rows(alloc, ids, last, items, keys, lasts, txn)?;
     let writes = txn.writes.as_slice();
     check_writes(alloc, Test::Values, tables, writes)?;
     check_writes(alloc, Test::Set, tables, writes)?;

@@ -2,13 +2,12 @@ ghost use Rattle.std.specs.Prelude.{◌≡◌, IfOk};
 ghost use Rattle.cs_txn.specs.Digests.{row_digest};
 
 use cs_types::{Duplicate, Memory, RowName};
-use std::cmp::Ordering;
 use std::hash::{FoldHasher, Hash, Hasher};
 use std::marker::Model;
 
-/// A row beside a number that is made of it, by which rows are ordered first. Most rows are told
-/// apart by one comparison of numbers, and rows that share a number, by chance or since somebody
-/// chose them so, still by a comparison of the rows. Contracts see it as the row.
+/// A row beside a number that is made of it once, which is all that a map of rows hashes and
+/// compares first. Rows that share a number, by chance or since somebody chose them so, are still
+/// told apart as rows. Contracts see it as the row.
 #[derive(Drop)]
 pub(crate) struct RowKey {
     digest: u64,
@@ -47,14 +46,11 @@ impl RowKey {
         })
     }
 
-    /// The same key once more.
-    pub(crate) fn copy(&self) -> Result<RowKey, Memory>
-        ensures { IfOk result (λ k. k ≡ self.now) }
+    /// The row itself.
+    pub(crate) fn row(&self) -> &RowName
+        ensures { result.now ≡ self.now }
     {
-        Ok(RowKey {
-            digest: self.digest,
-            row: self.row.copy()?,
-        })
+        &self.row
     }
 }
 
@@ -63,58 +59,35 @@ impl PartialEq for RowKey {
     ghost use Rattle.std.specs.Cmp.Rules.{comparing};
     ghost use Rattle.std.specs.Ordering.{eq_by_cmp};
     ghost use Rattle.std.specs.Cmp.{eq_by_cmp_equiv};
-    ghost use Rattle.cs_txn.specs.Digests.{digest_cmp, digests_total};
+    ghost use Rattle.cs_types.specs.Row.{row_cmp, rows_total};
 
-    ghost eq = { eq_by_cmp digest_cmp };
+    ghost eq = { eq_by_cmp row_cmp };
 
-    ghost laws = { Prim.search (eq_by_cmp_equiv, digests_total, comparing, rules) };
+    ghost laws = { Prim.search (eq_by_cmp_equiv, rows_total, comparing, rules) };
 
     fn eq(&self, other: &RowKey) -> bool {
-        match Ord::cmp(self, other) {
-            Ordering::Equal => true,
-            _ => false,
+        if self.digest != other.digest {
+            return false;
         }
+        self.row.is(&other.row)
     }
 }
 
 impl Eq for RowKey {
     ghost use Rattle.std.specs.Cmp.{eq_by_cmp_equiv};
-    ghost use Rattle.cs_txn.specs.Digests.{digests_total};
+    ghost use Rattle.cs_types.specs.Row.{rows_total};
 
-    ghost laws = { eq_by_cmp_equiv digests_total };
+    ghost laws = { eq_by_cmp_equiv rows_total };
 }
 
-impl Ord for RowKey {
-    ghost use Rattle.std.proofs.Common.{rules};
-    ghost use Rattle.std.specs.Cmp.Rules.{comparing};
-    ghost use Rattle.cs_txn.specs.Digests.{digest_cmp, digests_total};
+impl Hash for RowKey {
+    ghost use Rattle.cs_txn.specs.Digests.{digest_fed, digests_fed_alike};
 
-    ghost cmp = { digest_cmp };
+    ghost hash_input = { digest_fed };
 
-    ghost total = { digests_total };
+    ghost respects_eq = { digests_fed_alike.fed };
 
-    ghost matches_partial_cmp = { Prim.search (comparing, rules) };
-
-    ghost matches_eq = { Prim.search (comparing, rules) };
-
-    fn cmp(&self, other: &RowKey) -> Ordering {
-        match self.digest.cmp(&other.digest) {
-            Ordering::Equal => self.row.cmp(&other.row),
-            order => order,
-        }
-    }
-}
-
-impl PartialOrd for RowKey {
-    ghost use Rattle.std.specs.Ordering.{as_partial_cmp};
-    ghost use Rattle.std.specs.Cmp.{partial_order_from_total};
-    ghost use Rattle.cs_txn.specs.Digests.{digest_cmp, digests_total};
-
-    ghost partial_cmp = { as_partial_cmp digest_cmp };
-
-    ghost laws = { partial_order_from_total digests_total };
-
-    fn partial_cmp(&self, other: &RowKey) -> Option<Ordering> {
-        Some(self.cmp(other))
+    fn hash<H: Hasher>(&self, state: &mut H) {
+        self.digest.hash(state);
     }
 }

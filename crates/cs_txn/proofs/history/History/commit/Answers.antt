@@ -17,14 +17,14 @@ use Rattle.cs_txn.proofs.history.History.commit.Goals as goal
 pub check-requires-clause-lasts : goal.check-requires-clause-lasts
 check-requires-clause-lasts c =
     let keys : c.deref.result.now ≡ rows_of c.args.txn.now.writes = search rules in
-    let found : c.deref-2.result.now ≡ lasts_in c.self.inside.rows c.deref.result.now = search rules in
+    let found : c.deref-3.result.now ≡ lasts_in c.self.inside.rows c.deref.result.now = search rules in
     let items : c.as_slice-items.result.now ≡ c.self.inside.items.items = search rules in
     found ∙ ap (lasts_in c.self.inside.rows) keys ∙ lasts_alike c.self.inside.rows c.self.inside.items.items c.args.txn.now.writes c.self.invariant.0 ∙ ap (λ l. lasts_of l c.args.txn.now.writes) (sym items)
 
 pub modifications-requires : goal.modifications-requires
 modifications-requires c =
     let keys : c.deref.result.now ≡ rows_of c.args.txn.now.writes = search rules in
-    let found : c.deref-3.result.now ≡ lasts_in c.self.inside.rows c.deref.result.now = search rules in
+    let found : c.deref-4.result.now ≡ lasts_in c.self.inside.rows c.deref.result.now = search rules in
     let items : c.as_slice-items.result.now ≡ c.self.inside.items.items = search rules in
     found ∙ ap (lasts_in c.self.inside.rows) keys ∙ lasts_alike c.self.inside.rows c.self.inside.items.items c.args.txn.now.writes c.self.invariant.0 ∙ ap (λ l. lasts_of l c.args.txn.now.writes) (sym items)
 
@@ -32,7 +32,7 @@ pub put_all-requires-clause-rows : goal.put_all-requires-clause-rows
 put_all-requires-clause-rows c =
     let old : List Modification = c.self.inside.items.items in
     let tables : List Table = c.args.catalog.now.tables in
-    let keys : c.deref-6.result.now ≡ rows_of c.args.txn.now.writes = search rules in
+    let keys : c.in_ok-keys.keys.items ≡ rows_of c.args.txn.now.writes = search rules in
     let added : c.as_slice-5.result.now ≡ modifications_of tables old c.args.txn.now = search rules in
     keys ∙ added_rows tables old c.args.txn.now c.args.txn.now.writes ∙ ap (map (λ (m : Modification). m.row)) (sym added)
 
