@@ -1,5 +1,5 @@
 -- The cells that a write leaves in its row: an INSERT puts NULL in columns that it does not name and an UPDATE keeps them (Spanner's pages on mutations and on DML).
-use Rattle.std.specs.Prelude.{ℕ, List, [], ◌∷◌, Some, None, cond}
+use Rattle.std.specs.Prelude.{◌≡◌, ℕ, List, [], ◌∷◌, Some, None, cond}
 use Rattle.std.specs.declared.option.Option.{Option}
 use Rattle.std.specs.Ordering.{nat_cmp}
 use Rattle.std.specs.Cmp.Lexicographic.{slice_cmp}
@@ -13,6 +13,7 @@ use Rattle.cs_schema.specs.declared.types.Column.{Column}
 use Rattle.cs_schema.specs.declared.types.Table.{Table}
 use Rattle.cs_types.specs.Names.{is_same, is_among}
 use Rattle.cs_schema.specs.Tables.{table_named}
+use Rattle.cs_txn.specs.declared.free.Free.{Free}
 
 -- these names, and those of the columns that are no key columns, each once and in byte order
 abbrev pub free_names : List (List ℕ) → List (List ℕ) → List Column → List (List ℕ)
@@ -26,6 +27,11 @@ free_columns (Some t) = free_names [] t.key t.columns
 -- the names of a table's columns that are no key columns, in byte order; none where there is no table
 abbrev pub free_columns_of : List ℕ → List Table → List (List ℕ)
 free_columns_of name tables = free_columns (table_named name tables)
+
+-- the columns that are kept, if any, are those of their table
+abbrev pub AreFree : List Table → Option Free → Type 0
+AreFree tables None = Unit {0}
+AreFree tables (Some f) = f.columns.keys ≡ free_columns_of f.table tables
 
 -- the value of a column, where there is a cell of it
 abbrev pub found_in : List ℕ → List Cell → Option Value

@@ -1,12 +1,13 @@
-ghost use Rattle.std.specs.Prelude.{◌≡◌, [], All, IfOk, OnOk, option_copied};
+ghost use Rattle.std.specs.Prelude.{◌≡◌, [], Some, All, IfOk, OnOk, option_copied};
 ghost use Rattle.std.specs.Ordering.{nat_cmp};
 ghost use Rattle.std.specs.Cmp.Lexicographic.{slice_cmp};
 ghost use Rattle.std.specs.List.Sorted.{IsStrictlySortedBy};
 ghost use Rattle.cs_types.specs.Value.{IsInRange};
-ghost use Rattle.cs_txn.specs.Left.{free_names, free_columns_of, value_over, cells_for, row_cells, cells_left};
+ghost use Rattle.cs_txn.specs.Left.{free_names, free_columns_of, AreFree, value_over, cells_for, row_cells, cells_left};
 
 use crate::Write;
 use crate::finding::{find, is_key, lookup_of};
+use crate::free::Free;
 use cs_schema::{Table, Tables};
 use cs_types::{Cell, Cells, Duplicate, Items, Kind, Memory, Text, Value};
 use std::alloc::Global;
@@ -26,17 +27,34 @@ fn free(alloc: Global, table: &Table) -> Result<BTreeSet<Text>, Memory>
 }
 
 /// The names of the columns that are no key columns, in byte order; none where there is no table.
-pub(crate) fn free_columns(
-    alloc: Global,
-    tables: &Tables,
-    table: &Text,
-) -> Result<BTreeSet<Text>, Memory>
+fn free_columns(alloc: Global, tables: &Tables, table: &Text) -> Result<BTreeSet<Text>, Memory>
     ensures { IfOk result (λ names. names.keys ≡ free_columns_of table.now tables.now) }
 {
     match tables.find(table) {
         Some(table) => free(alloc, table),
         None => Ok(BTreeSet::new(alloc)),
     }
+}
+
+/// The columns of a table that are no key columns, which are taken again where they are known.
+pub(crate) fn free_again(
+    alloc: Global,
+    tables: &Tables,
+    table: &Text,
+    known: Option<Free>,
+) -> Result<Free, Memory>
+    requires { AreFree tables.now known }
+    ensures columns { IfOk result (λ f. f.columns.keys ≡ free_columns_of table.now tables.now) }
+    ensures known { IfOk result (λ f. AreFree tables.now (Some f)) }
+{
+    if let Some(free) = known {
+        if free.table.is(table) {
+            return Ok(free);
+        }
+    }
+    let columns = free_columns(alloc, tables, table)?;
+    let table = table.copy()?;
+    Ok(Free { table, columns })
 }
 
 fn value_of(column: &Text, set: &Cells, under: &Cells) -> Result<Value, Memory>

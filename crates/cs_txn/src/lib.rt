@@ -4,6 +4,7 @@
 mod columns;
 mod fault;
 mod finding;
+mod free;
 mod history;
 mod laws;
 mod left;

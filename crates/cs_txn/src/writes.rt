@@ -1,9 +1,11 @@
-ghost use Rattle.std.specs.Prelude.{◌≡◌, IfOk, option_copied};
+ghost use Rattle.std.specs.Prelude.{◌≡◌, Some, IfOk, option_copied};
+ghost use Rattle.cs_txn.specs.Left.{AreFree};
 ghost use Rattle.cs_txn.specs.History.{last_of, left_of, modification_of, modifications_of};
 ghost use Rattle.cs_types.specs.Names.{columns_of};
 ghost use Rattle.cs_txn.specs.Places.{standing, lasts_of};
 
-use crate::left::{free_columns, left, row_as_is};
+use crate::free::Free;
+use crate::left::{free_again, left, row_as_is};
 use crate::rows::{place_at, standing_at};
 use crate::{Modification, Txn, Write};
 use cs_schema::Tables;
@@ -34,6 +36,7 @@ fn names_of(alloc: Global, cells: &Cells) -> Result<Items<Text>, Memory>
     Ok(Items::from_vec(names))
 }
 
+/// What a write does to its row, and the columns of its table.
 fn modification(
     alloc: Global,
     tables: &Tables,
@@ -41,22 +44,26 @@ fn modification(
     txn: &Txn,
     last: Option<usize>,
     write: &Write,
-) -> Result<Modification, Memory>
-    requires { standing items.now last ≡ last_of write.now.row items.now }
-    ensures { IfOk result (λ m. m ≡ modification_of tables.now items.now txn.now write.now) }
+    known: Option<Free>,
+) -> Result<(Modification, Free), Memory>
+    requires last { standing items.now last ≡ last_of write.now.row items.now }
+    requires known { AreFree tables.now known }
+    ensures item { IfOk result (λ r. r.0 ≡ modification_of tables.now items.now txn.now write.now) }
+    ensures known { IfOk result (λ r. AreFree tables.now (Some r.1)) }
 {
-    let free = free_columns(alloc, tables, &write.row.table)?;
+    let free = free_again(alloc, tables, &write.row.table, known)?;
     let before = state(items, last);
-    Ok(Modification {
+    let item = Modification {
         stamp: txn.stamp,
         tx: txn.tx.copy()?,
         tag: txn.tag.copy()?,
         kind: write.kind,
         row: write.row.copy()?,
         named: names_of(alloc, &write.set)?,
-        before: row_as_is(alloc, &free, before)?,
-        after: left(alloc, &free, write, before)?,
-    })
+        before: row_as_is(alloc, &free.columns, before)?,
+        after: left(alloc, &free.columns, write, before)?,
+    };
+    Ok((item, free))
 }
 
 /// What the writes do to the rows, in their order.
@@ -70,12 +77,15 @@ pub(crate) fn modifications(
     requires { lasts.now ≡ lasts_of items.now txn.now.writes }
     ensures { IfOk result (λ added. added.items ≡ modifications_of tables.now items.now txn.now) }
 {
-    let mut added = Vec::new(alloc);
     let writes = txn.writes.as_slice();
+    let mut added = Vec::with_capacity(alloc, writes.len())?;
+    let mut known = None;
     for index in 0..writes.len() {
         let last = place_at(lasts, index);
         let write = &writes[index];
-        added.push(modification(alloc, tables, items, txn, last, write)?)?;
+        let (item, free) = modification(alloc, tables, items, txn, last, write, known)?;
+        added.push(item)?;
+        known = Some(free);
     }
     Ok(added)
 }
