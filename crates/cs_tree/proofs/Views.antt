@@ -1,45 +1,55 @@
--- A tree, level by level, and a map of borrowed names beside the members that it stands for.
-use Rattle.std.proofs.Common.{◌≡◌, ℕ, List, [], ◌∷◌, Vec, BTreeMap, Global, Ordering, Less, Equal, Greater, nat_cmp, Option, Some, None, option_map, is_eq, cond, Bor, refl, ◌∙◌, rules}
+-- A tree, level by level, and entries beside the members that they stand for.
+use Rattle.std.proofs.Common.{◌≡◌, ℕ, List, [], ◌∷◌, ◌++◌, Vec, Global, Ordering, Less, Equal, Greater, nat_cmp, Option, Some, is_eq, true, false, refl, ap, ◌∙◌, rules}
 use Rattle.std.specs.Cmp.Lexicographic.{slice_cmp}
 use Rattle.std.specs.Ordering.{match_ordering}
-use Rattle.std.specs.BTreeMap.{insert_entry, is_at}
-use Rattle.std.specs.Map.{lookup}
-use Rattle.serde_json.specs.Data.{Data, array, object, put}
+use Rattle.serde_json.specs.Data.{Data, array, object, Members, put}
 use Rattle.serde_json.specs.Find.{get_member}
 use Rattle.cs_tree.specs.View.{view, items_view, members_view}
+use Rattle.cs_tree.specs.Order.{Name, name_cmp, put_entry, put_all}
+use Rattle.cs_tree.specs.declared.entries.Entry.{Entry}
 use Rattle.cs_tree.specs.declared.tree.Tree.{Tree, Array, Object, the_lemmas}
-
-abbrev pub Entry : Type 0
-Entry = Bor (List ℕ) × Tree
-
--- the order of borrowed names
-abbrev pub name_cmp : Bor (List ℕ) → Bor (List ℕ) → Ordering
-name_cmp x y = slice_cmp nat_cmp x.now y.now
 
 pub view-Array : (v : Vec Tree Global) → view (Array v) ≡ array (items_view v.items)
 view-Array v = search (rules, the_lemmas)
 
-pub view-Object : (m : BTreeMap (Bor (List ℕ)) Tree) → view (Object m) ≡ object (members_view m.entries)
-view-Object m = search (rules, the_lemmas)
+pub view-Object : (es : List (Entry Name Tree)) → view (Object es) ≡ object (members_view es)
+view-Object es = search (rules, the_lemmas)
 
-members_view-match_ordering : (o : Ordering) (a b c : List Entry) → members_view (match_ordering o a b c) ≡ match_ordering o (members_view a) (members_view b) (members_view c)
+members_view-match_ordering : (o : Ordering) (a b c : List (Entry Name Tree)) → members_view (match_ordering o a b c) ≡ match_ordering o (members_view a) (members_view b) (members_view c)
 members_view-match_ordering Less a b c = refl
 members_view-match_ordering Equal a b c = refl
 members_view-match_ordering Greater a b c = refl
 
-pub members_view-insert_entry : (es : List Entry) (k : Bor (List ℕ)) (v : Tree) → members_view (insert_entry name_cmp es k v) ≡ put k.now (view v) (members_view es)
-members_view-insert_entry [] k v = refl
-members_view-insert_entry (e ∷ es) k v = members_view-match_ordering (name_cmp k e.0) _ _ _ ∙ rw (members_view-insert_entry es k v)
+members_view-put_entry : (e : Entry Name Tree) (es : List (Entry Name Tree)) → members_view (put_entry e es) ≡ put e.name.now (view e.tree) (members_view es)
+members_view-put_entry e [] = refl
+members_view-put_entry e (f ∷ es) = members_view-match_ordering (name_cmp e.name f.name) _ _ _ ∙ rw (members_view-put_entry e es)
 
-found_or : (o : Ordering) (v : Tree) (rest : Option Tree) (d : Option Data) → option_map view rest ≡ d → option_map view (cond (is_eq o) (Some v) rest) ≡ match_ordering o d (Some (view v)) d
-found_or Less v rest d e = e
-found_or Equal v rest d e = refl
-found_or Greater v rest d e = e
+-- the members, and then those of a text, one after another
+abbrev pub puts : List (Entry Name Tree) → Members → Members
+puts [] ms = ms
+puts (e ∷ es) ms = puts es (put e.name.now (view e.tree) ms)
 
-pub view-lookup : (name : List ℕ) (es : List Entry) → option_map view (lookup (is_at (λ (k : Bor (List ℕ)). slice_cmp nat_cmp name k.now)) es) ≡ get_member name (members_view es)
-view-lookup name [] = refl
-view-lookup name (e ∷ es) = found_or (slice_cmp nat_cmp name e.0.now) e.1 _ _ (view-lookup name es)
+pub puts-push : (es : List (Entry Name Tree)) (e : Entry Name Tree) (ms : Members) → puts (es ++ e ∷ []) ms ≡ put e.name.now (view e.tree) (puts es ms)
+puts-push [] e ms = refl
+puts-push (f ∷ es) e ms = puts-push es e (put f.name.now (view f.tree) ms)
 
-pub view_of_ref : (r : Option (Bor Tree)) → option_map (λ x. view x.now) r ≡ option_map view (option_map (λ x. x.now) r)
-view_of_ref None = refl
-view_of_ref (Some x) = refl
+pub members_view-put_all : (es more : List (Entry Name Tree)) → members_view (put_all es more) ≡ puts more (members_view es)
+members_view-put_all es [] = refl
+members_view-put_all es (e ∷ more) = members_view-put_all (put_entry e es) more ∙ ap (puts more) (members_view-put_entry e es)
+
+-- a member that has the name is the first that has it, and another is passed by
+here : (o : Ordering) (d : Option Data) (t : Data) → is_eq o ≡ true → match_ordering o d (Some t) d ≡ Some t
+here Less d t h = absurd (cc)
+here Equal d t h = refl
+here Greater d t h = absurd (cc)
+
+passed : (o : Ordering) (d : Option Data) (t : Data) → is_eq o ≡ false → match_ordering o d (Some t) d ≡ d
+passed Less d t h = refl
+passed Equal d t h = absurd (cc)
+passed Greater d t h = refl
+
+pub member_here : (name : List ℕ) (e : Entry Name Tree) (es : List (Entry Name Tree)) → is_eq (slice_cmp nat_cmp name e.name.now) ≡ true → get_member name (members_view (e ∷ es)) ≡ Some (view e.tree)
+member_here name e es h = here (slice_cmp nat_cmp name e.name.now) _ _ h
+
+pub member_later : (name : List ℕ) (e : Entry Name Tree) (es : List (Entry Name Tree)) → is_eq (slice_cmp nat_cmp name e.name.now) ≡ false → get_member name (members_view (e ∷ es)) ≡ get_member name (members_view es)
+member_later name e es h = passed (slice_cmp nat_cmp name e.name.now) _ _ h

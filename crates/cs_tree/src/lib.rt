@@ -2,12 +2,15 @@
 //! reads, and takes no memory for a text.
 #![tactic(auto)]
 
+mod entries;
 mod fault;
 mod form;
 mod number;
+mod order;
 mod read;
 mod tree;
 
+pub use entries::{Entries, Entry};
 pub use fault::TreeFault;
 pub use read::tree_of;
 pub use tree::{Members, Tree, member};

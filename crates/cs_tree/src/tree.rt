@@ -1,9 +1,11 @@
 ghost use Rattle.std.specs.Prelude.{◌≡◌, is_some, option_map};
+ghost use Rattle.std.specs.Ordering.{nat_cmp, is_eq};
+ghost use Rattle.std.specs.Cmp.Lexicographic.{slice_cmp};
 ghost use Rattle.serde_json.specs.Find.{as_array, as_object, get, get_member};
 ghost use Rattle.cs_tree.specs.View.{view, items_view, members_view};
 
+use crate::Entries;
 use serde_json::Number;
-use std::collections::BTreeMap;
 
 /// A JSON value. Its texts are borrowed.
 #[derive(Drop)]
@@ -23,13 +25,25 @@ pub enum Tree<'a> {
 }
 
 /// The members of an object, in byte order of their names.
-pub type Members<'a> = BTreeMap<&'a str, Tree<'a>>;
+pub type Members<'a> = Entries<&'a str, Tree<'a>>;
 
 /// The member of a name.
 pub fn member<'v, 'a>(members: &'v Members<'a>, name: &str) -> Option<&'v Tree<'a>>
-    ensures { option_map (λ tree. view tree.now) result ≡ get_member name.now (members_view members.now.entries) }
+    ensures { option_map (λ tree. view tree.now) result ≡ get_member name.now (members_view members.now) }
 {
-    members.get(name)
+    for entry in members.as_slice() {
+        if is_same(name, entry.name) {
+            return Some(&entry.tree);
+        }
+    }
+    None
+}
+
+#[tactic(auto, using(crate::proofs::Names::is_same_text))]
+fn is_same(one: &str, other: &str) -> bool
+    ensures { result ≡ is_eq (slice_cmp nat_cmp one.now other.now) }
+{
+    one == other
 }
 
 impl<'a> Tree<'a> {
@@ -55,7 +69,7 @@ impl<'a> Tree<'a> {
 
     /// The members, where it is an object.
     pub fn as_object(&self) -> Option<&Members<'a>>
-        ensures { option_map (λ m. members_view m.now.entries) result ≡ as_object (view self.now) }
+        ensures { option_map (λ m. members_view m.now) result ≡ as_object (view self.now) }
     {
         if let Tree::Object(map) = self {
             Some(map)

@@ -3,12 +3,12 @@ use Rattle.json.specs.Token.{Token}
 use Rattle.json.specs.Json.{parse_map, after_end_array, read_key, items, members, value}
 use Rattle.json.specs.Reads.{token_of}
 use Rattle.json.proofs.Grammar.{value_is, value-begin_array, value-begin_object, read_key-shorter}
-use Rattle.serde_json.specs.Data.{null, boolean, number, string, array, object, put}
+use Rattle.serde_json.specs.Data.{null, boolean, number, string, array, object, put, no_members}
 use Rattle.serde_json.specs.Read.{of_json, of_items, of_members, converted}
 use Rattle.serde_json.specs.View.{number_view}
 use Rattle.cs_tree.specs.View.{view, members_view}
 use Rattle.cs_tree.specs.declared.tree.Tree.{Text, Number, Bool, Null, the_lemmas}
-use Rattle.cs_tree.proofs.Views.{view-Array, view-Object, members_view-insert_entry}
+use Rattle.cs_tree.proofs.Views.{view-Array, view-Object, puts, puts-push, members_view-put_all}
 use Rattle.cs_tree.proofs.Reading.{converted-array, converted-object, item_read, item_refused, items_over, member_read, member_refused, key_refused, members_over, items_before, items_before-no_items, one_more_item, none_before}
 use Rattle.cs_tree.proofs.read.+read.Goals as goal
 
@@ -139,22 +139,22 @@ read_items-returns-clause-ok t c =
 pub read_members-members-init : goal.read_members-members-init
 read_members-members-init t c =
     let all = members (value c.args.depth) (length c.args.reader.now) c.args.reader.now in
-    (length c.args.reader.now, omega arith, ap (λ es. converted (λ ms. of_members ms (members_view es)) all) (sym c.new-found.ensures.empty), omega arith)
+    (length c.args.reader.now, omega arith, ap (λ es. converted (λ ms. of_members ms (puts es no_members)) all) (sym c.new-found.ensures.items), omega arith)
 
 pub read_members-returns-in_err-name-clause-err : goal.read_members-returns-in_err-name-clause-err
 read_members-returns-in_err-name-clause-err t c refused =
     let p = value c.args.depth in
     let l = c.members in
     let n = l.invariant.0 in
-    let old = members_view l.found.entries in
+    let old = puts l.found.items no_members in
     l.invariant.2 ∙ key_refused p old n l.reader c.in_err-name.ensures.value
 
-pub read_members-returns-in_err-member-clause-err : goal.read_members-returns-in_err-member-clause-err
-read_members-returns-in_err-member-clause-err t c refused =
+pub read_members-returns-in_err-tree-clause-err : goal.read_members-returns-in_err-tree-clause-err
+read_members-returns-in_err-tree-clause-err t c refused =
     let p = value c.args.depth in
     let l = c.members in
     let n = l.invariant.0 in
-    let old = members_view l.found.entries in
+    let old = puts l.found.items no_members in
     let k = c.in-Some.name.now in
     let s = c.next_key.new.self in
     let named : read_key l.reader ≡ Some (Some k, s) = grind arith in
@@ -165,21 +165,21 @@ read_members-members-preserved t c =
     let p = value c.args.depth in
     let l = c.members in
     let n = l.invariant.0 in
-    let old = members_view l.found.entries in
+    let old = puts l.found.items no_members in
     let k = c.in-Some.name.now in
     let s = c.next_key.new.self in
     let named : read_key l.reader ≡ Some (Some k, s) = grind arith in
-    let done = c.in_ok-member.ensures in
-    let v = c.in_ok-member.member in
+    let done = c.in_ok-tree.ensures in
+    let v = c.in_ok-tree.tree in
     let r = c.read_value.new.reader in
     let less = read_key-shorter l.reader (Some k) s named in
     let lesser = done.shorter in
-    let inserted : members_view c.insert.new.self.entries ≡ put k (view v) old =
-    ap members_view c.in_ok-insert.ensures.entries ∙ members_view-insert_entry l.found.entries c.in-Some.name v in (
+    let pushed : puts c.push.new.self.items no_members ≡ put k (view v) old =
+    ap (λ es. puts es no_members) c.in_ok-push.ensures.items ∙ puts-push l.found.items (record { name = c.in-Some.name; tree = v }) no_members in (
       n - 1,
       omega (arith, l.invariant.1),
       l.invariant.2 ∙ member_read p old n k l.reader s r (view v) (omega (arith, l.invariant.1)) named done.ok
-          ∙ ap (λ found. converted (λ ms. of_members ms found) (members p (n - 1) r)) (sym inserted),
+          ∙ ap (λ found. converted (λ ms. of_members ms found) (members p (n - 1) r)) (sym pushed),
       omega (arith, l.invariant.3),
     )
 
@@ -188,5 +188,7 @@ read_members-returns-clause-ok t c =
     let p = value c.args.depth in
     let l = c.members in
     let n = l.invariant.0 in
-    let old = members_view l.found.entries in
-    l.invariant.2 ∙ members_over p old n l.reader c.next_key.new.self l.invariant.1 (grind arith)
+    let old = puts l.found.items no_members in
+    let r = c.next_key.new.self in
+    let seen : old ≡ members_view c.in_ok-in_order.field-0 = sym (ap members_view c.in_ok-in_order.ensures ∙ members_view-put_all [] l.found.items) in
+    l.invariant.2 ∙ members_over p old n l.reader r l.invariant.1 (grind arith) ∙ ap (λ ms. Some (ms, r)) seen
