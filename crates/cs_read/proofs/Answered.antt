@@ -27,7 +27,7 @@ use Rattle.cs_steps.specs.Refusals.{refusal_by, FirstIsRight, NoneIsRight}
 use Rattle.cs_script.specs.Database.{Database, writes_at}
 use Rattle.cs_read.specs.Answers.{StreamRead, at, read_of, read_asked, read_refusal, stream_refusal, stream_steps, answer_steps}
 use Rattle.cs_read.specs.Asked.{asked_of, steps_asked, steps_by_token, steps_of_named}
-use Rattle.cs_read.specs.Honest.{IsState, stream_feed, read_as, read_answered, opened_as, StreamsAreSound, ReadsAreHonest}
+use Rattle.cs_read.specs.Honest.{IsState, stream_feed, read_as, read_answered, opened_as, StreamsAreSound, ReadsAreHonest, TypedReadsAreHonest}
 use Rattle.cs_read.proofs.Accepted.{part_found, accepted}
 use Rattle.cs_read.proofs.Named.{named_some}
 use Rattle.cs_read.proofs.States.{layout_of}
@@ -144,3 +144,7 @@ reads_honest laws db query moment r h stamp typed asked =
     subst (λ o. IsHonest (stream_feed db r.stream r.parts) (read_as r.args moment o (answer_steps db query moment))) (sym refusal)
     (subst (λ l. IsHonest (stream_feed db r.stream r.parts) (read_as r.args moment (refusal_by r.parts r.stream.created r.stream.retention_us r.args moment) l)) (sym steps)
     (is_honest laws r.parts (captured_items db.tables r.stream db.modifications) r.stream.created r.stream.retention_us S few_parts C r.args moment stamp.1))
+
+pub typed_honest : Premises → TypedReadsAreHonest
+typed_honest laws db place s l args moment h stamp at_s at_l =
+    is_honest laws l.parts (captured_items db.tables s db.modifications) s.created s.retention_us (sound laws.committed db h place s l at_s at_l) (few laws.committed db h place s l at_s at_l) (are_committed laws.committed db h place s l at_s at_l) args moment stamp.1

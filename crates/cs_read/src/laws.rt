@@ -1,4 +1,4 @@
-ghost use Rattle.cs_read.specs.Honest.{ReadsAreHonest, StreamsAreSound};
+ghost use Rattle.cs_read.specs.Honest.{ReadsAreHonest, StreamsAreSound, TypedReadsAreHonest};
 
 use cs_place::tokens_name_parts;
 use cs_steps::{captured_is_committed, refusals_are_right, steps_are_honest};
@@ -16,6 +16,17 @@ pub fn streams_are_sound()
 /// condition of none holds, and each step may follow those before it.
 pub fn reads_are_honest()
     ensures { ReadsAreHonest }
+{
+    let _committed = captured_is_committed();
+    let _steps = steps_are_honest();
+    let _refusals = refusals_are_right();
+    let _tokens = tokens_name_parts();
+}
+
+/// A law: the same of typed arguments themselves, whatever query they stand for. The refusals from
+/// `Heartbeat` to `StartPastPartition` are all that they can meet.
+pub fn typed_reads_are_honest()
+    ensures { TypedReadsAreHonest }
 {
     let _committed = captured_is_committed();
     let _steps = steps_are_honest();

@@ -15,5 +15,5 @@ mod steps;
 pub use answer::{Answer, read};
 pub use content::IndexedStream;
 pub use kept::states_are_kept;
-pub use laws::{reads_are_honest, streams_are_sound};
+pub use laws::{reads_are_honest, streams_are_sound, typed_reads_are_honest};
 pub use reading::Reading;
