@@ -1,0 +1,12 @@
+//! The server of the scripted database: READs over its state, without bytes.
+#![tactic(auto)]
+
+mod going;
+mod kept;
+mod laws;
+mod link;
+mod opening;
+mod places;
+
+pub use laws::{answers_are_those_of_queries, server_links_are_honest};
+pub use link::ServerLink;
