@@ -63,12 +63,12 @@ fn key_cell_of(
 
 /// The members of an object, which stand in rising order, as cells of the table.
 fn each_cell(alloc: Global, table: &Table, members: &Members<'_>) -> Result<Cells, LineCause>
-    ensures { Gives result (each_cell table.now (members_view members.now.entries)) }
+    ensures { Gives result (each_cell table.now (members_view members.now)) }
 {
     let finder = finder_of(alloc, table, members.len())?;
     let mut cells = Gathered::new(alloc);
-    for (name, tree) in members.iter() {
-        cells = cells.with(cell_of(alloc, table, &finder, *name, tree))?;
+    for entry in members.as_slice() {
+        cells = cells.with(cell_of(alloc, table, &finder, entry.name, &entry.tree))?;
     }
     let items = cells.finish()?;
     Ok(Cells::in_order(items))
@@ -76,12 +76,12 @@ fn each_cell(alloc: Global, table: &Table, members: &Members<'_>) -> Result<Cell
 
 /// The like as cells of the table's key.
 fn each_key_cell(alloc: Global, table: &Table, members: &Members<'_>) -> Result<Cells, LineCause>
-    ensures { Gives result (each_key_cell table.now (members_view members.now.entries)) }
+    ensures { Gives result (each_key_cell table.now (members_view members.now)) }
 {
     let finder = finder_of(alloc, table, members.len())?;
     let mut cells = Gathered::new(alloc);
-    for (name, tree) in members.iter() {
-        cells = cells.with(key_cell_of(alloc, table, &finder, *name, tree))?;
+    for entry in members.as_slice() {
+        cells = cells.with(key_cell_of(alloc, table, &finder, entry.name, &entry.tree))?;
     }
     let items = cells.finish()?;
     Ok(Cells::in_order(items))
@@ -89,7 +89,7 @@ fn each_key_cell(alloc: Global, table: &Table, members: &Members<'_>) -> Result<
 
 /// That each column of the key has a member; else the first that has none.
 fn has_each(names: &[Text], members: &Members<'_>) -> Result<(), LineCause>
-    ensures { Gives result (has_each names.now (members_view members.now.entries)) }
+    ensures { Gives result (has_each names.now (members_view members.now)) }
 {
     for name in names {
         if !has_member(members, name.as_str()) {
@@ -100,7 +100,7 @@ fn has_each(names: &[Text], members: &Members<'_>) -> Result<(), LineCause>
 }
 
 fn has_member(members: &Members<'_>, name: &str) -> bool
-    ensures { result ≡ is_some (get_member name.now (members_view members.now.entries)) }
+    ensures { result ≡ is_some (get_member name.now (members_view members.now)) }
 {
     match member(members, name) {
         Some(_) => true,
@@ -111,7 +111,7 @@ fn has_member(members: &Members<'_>, name: &str) -> bool
 /// The cells of a key: one for each of the key's columns and no other.
 #[tactic(auto, unfolding(crate::specs::Cells::key_reading))]
 fn key_of(alloc: Global, table: &Table, members: &Members<'_>) -> Result<Cells, LineCause>
-    ensures { Gives result (key_reading table.now (members_view members.now.entries)) }
+    ensures { Gives result (key_reading table.now (members_view members.now)) }
 {
     let cells = each_key_cell(alloc, table, members);
     let whole = has_each(table.key.as_slice(), members);

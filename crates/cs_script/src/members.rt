@@ -182,11 +182,11 @@ fn first_other(
     members: &Members<'_>,
     known: &[&'static str],
 ) -> Result<(), LineCause>
-    ensures { Gives result (first_other (map (λ s. s.now) known.now) (members_view members.now.entries)) }
+    ensures { Gives result (first_other (map (λ s. s.now) known.now) (members_view members.now)) }
 {
-    for (name, _) in members.iter() {
-        if !is_listed(*name, known) {
-            return Err(bad(alloc, *name));
+    for entry in members.as_slice() {
+        if !is_listed(entry.name, known) {
+            return Err(bad(alloc, entry.name));
         }
     }
     Ok(())

@@ -4,4 +4,4 @@ use Rattle.cs_script.specs.Cells.{has_each}
 use Rattle.cs_script.proofs.cells.has_each.Given as goal
 
 abbrev pub invariant-loop-name : goal.invariant-loop-name
-invariant-loop-name l = has_each (drop l.name-index l.names) (members_view l.members.entries) ≡ has_each l.names (members_view l.members.entries)
+invariant-loop-name l = has_each (drop l.name-index l.names) (members_view l.members) ≡ has_each l.names (members_view l.members)
