@@ -1,22 +1,18 @@
 -- A READ with typed arguments, of a stream that is there.
-use Rattle.std.proofs.Common.{◌≡◌, ℕ, List, Option, None, Some, slice_get, refl, ap, ◌∙◌}
-use Rattle.cs_place.specs.declared.part.Part.{Part}
+use Rattle.std.proofs.Common.{◌≡◌, ℕ, Option, None, Some, slice_get, refl, ap, ◌∙◌}
 use Rattle.cs_schema.specs.declared.types.Stream.{Stream}
 use Rattle.cs_partitions.specs.Layout.{StreamParts}
 use Rattle.cs_link.specs.declared.feed.Feed.{Feed}
 use Rattle.cs_link.specs.declared.reading.ReadArgs.{ReadArgs}
-use Rattle.cs_link.specs.declared.reading.Step.{Step}
-use Rattle.cs_link.specs.declared.refusal.ReadRefusal.{ReadRefusal}
 use Rattle.cs_steps.specs.Captures.{captured_items}
 use Rattle.cs_steps.specs.Refusals.{refusal_by}
 use Rattle.cs_script.specs.Database.{Database}
-use Rattle.cs_read.specs.Answers.{StreamRead, at, stream_steps}
+use Rattle.cs_read.specs.Answers.{StreamRead, stream_steps}
 use Rattle.cs_read.specs.Asked.{steps_asked}
-use Rattle.cs_read.specs.Content.{Content}
 use Rattle.cs_read.specs.Honest.{stream_feed}
 use Rattle.cs_read.specs.Whole.{content_of}
 use Rattle.cs_server.specs.Going.{content_with, content_at}
-use Rattle.cs_server.specs.Typed.{place_named, read_with, read_at, read_typed, refusal_to, refusal_of, steps_of, feed_with, feed_at, feed_told}
+use Rattle.cs_server.specs.Typed.{place_named, read_with, read_at, read_typed, refusal_to, refusal_of, steps_of, feed_with, feed_at}
 
 -- the stream at a place
 module _ (db : Database) (place : ℕ) (s : Stream) (l : StreamParts) (at_s : slice_get db.streams place ≡ Some s) (at_l : slice_get db.layouts place ≡ Some l) where
@@ -29,9 +25,6 @@ module _ (db : Database) (place : ℕ) (s : Stream) (l : StreamParts) (at_s : sl
 
     pub refusal_at_is : (moment : ℕ) → refusal_to (read_at db (Some place) args) moment ≡ refusal_by l.parts s.created s.retention_us args moment
     refusal_at_is moment = ap (λ (o : Option StreamRead). refusal_to o moment) at_is
-
-    pub steps_at_are : (moment : ℕ) → stream_steps db (read_at db (Some place) args) moment ≡ steps_asked l.parts (captured_items db.tables s db.modifications) args moment
-    steps_at_are moment = ap (λ (o : Option StreamRead). stream_steps db o moment) at_is
 
     module _ (named : place_named args.stream db.streams ≡ Some place) where
       pub read_is : read_typed db args ≡ Some (record { stream = s; parts = l.parts; args = args })

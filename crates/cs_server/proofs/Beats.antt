@@ -1,10 +1,10 @@
 -- The heartbeats of an answer stand so far above its start as they were asked for.
-use Rattle.std.proofs.Common.{◌≡◌, ℕ, suc, ◌+◌, ◌-◌, ◌*◌, ◌≤◌, ◌<◌, ◌&&◌, ◌||◌, Bool, true, false, cond, nat_le, nat_lt, List, [], ◌∷◌, ◌++◌, take, length, Option, None, Some, All, Contains, refl, subst, ap, ◌∙◌, arith}
+use Rattle.std.proofs.Common.{◌≡◌, ℕ, suc, ◌+◌, ◌-◌, ◌≤◌, ◌&&◌, ◌||◌, Bool, true, false, cond, nat_le, nat_lt, List, [], ◌∷◌, ◌++◌, take, length, Option, None, Some, All, refl, subst, arith}
 use Rattle.std.specs.Prelude.{⊤}
 use Rattle.std.specs.Int.{is_in_range}
-use Rattle.std.specs.Option.{option_map, option_or}
+use Rattle.std.specs.Option.{option_or}
 use Rattle.std.proofs.lemmas.Bool.{leb-true, ltb-false}
-use Rattle.std.proofs.lemmas.List.Elements.{All-nil, All-cons, All-append, All-take, All-contains}
+use Rattle.std.proofs.lemmas.List.Elements.{All-nil, All-cons, All-append, All-take}
 use Rattle.cs_place.specs.declared.part.Part.{Part}
 use Rattle.cs_records.specs.declared.captured.Captured.{Captured}
 use Rattle.cs_records.specs.declared.records.Child.{Child}
@@ -15,16 +15,15 @@ use Rattle.cs_link.specs.declared.reading.Closing.{Closing}
 use Rattle.cs_link.specs.declared.reading.ReadArgs.{ReadArgs}
 use Rattle.cs_link.specs.declared.reading.Step.{Step}
 use Rattle.cs_link.specs.declared.refusal.ReadRefusal.{ReadRefusal}
-use Rattle.cs_link.specs.Pace.{pace, IsPaced, IsPacedPresent}
+use Rattle.cs_link.specs.Pace.{pace}
 use Rattle.cs_steps.specs.Captures.{captured_items}
 use Rattle.cs_steps.specs.Refusals.{time_refusal, token_refusal, refusal_by}
-use Rattle.cs_steps.specs.Steps.{Asked, between, beat_at, paced, listed_from, child_groups, child_steps, children_of, live_at, has_ended, closing, ending, cut_off, top_of, records_for, steps_of_part, steps_of_start}
+use Rattle.cs_steps.specs.Steps.{Asked, between, beat_at, paced, listed_from, child_groups, child_steps, children_of, live_at, has_ended, closing, ending, cut_off, top_of, records_for, steps_of_part}
 use Rattle.cs_steps.specs.Records.{data_records}
 use Rattle.cs_script.specs.Database.{Database}
-use Rattle.cs_read.specs.Answers.{StreamRead, stream_refusal, stream_steps}
+use Rattle.cs_read.specs.Answers.{StreamRead, stream_steps}
 use Rattle.cs_read.specs.Asked.{asked_of, steps_of_named, steps_by_token, steps_asked}
 use Rattle.cs_read.specs.Honest.{given_as}
-use Rattle.cs_server.specs.State.{LinkState, last_of, read_of, present_of}
 use Rattle.cs_server.specs.Typed.{read_typed, refusal_to, refusal_of, steps_of, steps_given}
 
 -- a heartbeat is not below a bound

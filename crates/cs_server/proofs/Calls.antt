@@ -1,5 +1,5 @@
 -- What a link over a state tells of its calls is what every link has to.
-use Rattle.std.proofs.Common.{◌≡◌, ℕ, ◌+◌, ◌-◌, ◌<◌, ◌≤◌, Bool, List, [], ◌∷◌, ◌++◌, length, get_or, take, Option, Some, None, slice_get, refl, ap, ◌∙◌, sym, arith}
+use Rattle.std.proofs.Common.{◌≡◌, ℕ, ◌+◌, List, [], ◌∷◌, ◌++◌, take, Option, Some, None, slice_get, refl, ap, ◌∙◌, sym}
 use Rattle.std.specs.Prelude.{Ok, Err, Result}
 use Rattle.std.specs.Option.{option_map}
 use Rattle.std.proofs.lemmas.List.{take_more}
@@ -8,9 +8,8 @@ use Rattle.cs_link.specs.declared.reading.ReadArgs.{ReadArgs}
 use Rattle.cs_link.specs.declared.reading.Step.{Step}
 use Rattle.cs_link.specs.declared.refusal.LinkAnswer.{LinkAnswer}
 use Rattle.cs_link.specs.Calls.{after_next, Goes}
-use Rattle.cs_link.specs.Causes.{HasFailed}
 use Rattle.cs_read.specs.Honest.{opened_as}
-use Rattle.cs_server.specs.State.{LinkState, last_of, answer_to, next_step, read_of, present_of, after_step, IsServedOpen, IsServedNext}
+use Rattle.cs_server.specs.State.{LinkState, last_of, answer_to, read_of, present_of, after_step, IsServedOpen, IsServedNext}
 use Rattle.cs_server.specs.Typed.{refusal_of, steps_given}
 
 -- ---- the present READ
@@ -36,22 +35,6 @@ module _ (before now : LinkState) where
       by (Some args) e (Err (LinkAnswer.Refused refusal)) S = absurd S
       by (Some args) e (Err (LinkAnswer.BadLine number fault)) S = absurd S
       by (Some args) e (Err LinkAnswer.Memory) S = ap Some (ap present_of S ∙ ap (option_map (read_of before)) e)
-
-  -- ---- no call fails
-
-  pub open_is_calm : (args : ReadArgs) (result : Result (Unit {0}) LinkAnswer) → IsServedOpen before now args result → HasFailed 0 0 result
-  open_is_calm args (Ok u) S = record { later = omega arith; failed = λ h. cc; kept = λ h. refl }
-  open_is_calm args (Err LinkAnswer.Failed) S = absurd S
-  open_is_calm args (Err (LinkAnswer.Refused refusal)) S = record { later = omega arith; failed = λ h. cc; kept = λ h. refl }
-  open_is_calm args (Err (LinkAnswer.BadLine number fault)) S = absurd S
-  open_is_calm args (Err LinkAnswer.Memory) S = record { later = omega arith; failed = λ h. cc; kept = λ h. refl }
-
-  pub next_is_calm : (result : Result Step LinkAnswer) → IsServedNext before now result → HasFailed 0 0 result
-  next_is_calm (Ok step) S = record { later = omega arith; failed = λ h. cc; kept = λ h. refl }
-  next_is_calm (Err LinkAnswer.Failed) S = absurd S
-  next_is_calm (Err (LinkAnswer.Refused refusal)) S = absurd S
-  next_is_calm (Err (LinkAnswer.BadLine number fault)) S = absurd S
-  next_is_calm (Err LinkAnswer.Memory) S = record { later = omega arith; failed = λ h. cc; kept = λ h. refl }
 
   -- ---- the state is the same
 

@@ -3,6 +3,7 @@ mod Beats
 mod Calls
 mod Ends
 mod Layouts
+mod Names
 mod Queries
 mod Truth
 mod Views

@@ -1,8 +1,7 @@
 -- What a link over a state tells is true of the feeds of its streams, and is paced.
-use Rattle.std.proofs.Common.{◌≡◌, ℕ, zero, suc, ◌+◌, ◌≤◌, List, [], ◌∷◌, ◌++◌, take, Option, None, Some, All, Contains, slice_get, refl, sym, subst, ap, ◌∙◌}
+use Rattle.std.proofs.Common.{◌≡◌, ℕ, zero, suc, ◌+◌, List, [], ◌∷◌, ◌++◌, take, Option, None, Some, refl, sym, subst, ap, ◌∙◌}
 use Rattle.std.specs.Option.{option_map}
 use Rattle.std.proofs.lemmas.List.Elements.{All-take, All-contains}
-use Rattle.cs_place.specs.declared.part.Part.{Part}
 use Rattle.cs_records.specs.declared.records.Record.{Record}
 use Rattle.cs_schema.specs.declared.types.Stream.{Stream}
 use Rattle.cs_partitions.specs.Layout.{StreamParts}
@@ -17,10 +16,10 @@ use Rattle.cs_link.specs.Reading.{Read, end_of}
 use Rattle.cs_steps.specs.Refusals.{refusal_by}
 use Rattle.cs_script.specs.Database.{Database}
 use Rattle.cs_read.specs.Answers.{StreamRead, at}
-use Rattle.cs_read.specs.Honest.{IsState, stream_feed, read_as, opened_as, given_as, StreamsAreSound, TypedReadsAreHonest}
+use Rattle.cs_read.specs.Honest.{IsState, stream_feed, read_as, StreamsAreSound, TypedReadsAreHonest}
 use Rattle.cs_server.specs.Laws.{IsHonestLink}
 use Rattle.cs_server.specs.State.{LinkState, IsWell, new_link, last_of, read_of, present_of}
-use Rattle.cs_server.specs.Typed.{place_named, read_with, read_at, read_typed, refusal_of, steps_of, steps_given, feed_told}
+use Rattle.cs_server.specs.Typed.{place_named, read_with, refusal_of, steps_of, steps_given, feed_told}
 use Rattle.cs_server.proofs.Asks.{IsTold, told, refusal_is, steps_are}
 use Rattle.cs_server.proofs.Beats.{IsAbove, given_above}
 

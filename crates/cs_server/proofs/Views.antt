@@ -1,5 +1,5 @@
 -- What contracts see of a link over a state before and after a call, by what it keeps.
-use Rattle.std.proofs.Common.{◌≡◌, ◌≢◌, ℕ, ◌+◌, ◌-◌, ◌≤◌, ◌<◌, Bool, true, false, not, List, [], ◌∷◌, ◌++◌, length, get_or, Option, None, Some, IfSome, slice_get, refl, sym, ap, subst, ◌∙◌, append_assoc, length-append, true≢false, arith}
+use Rattle.std.proofs.Common.{◌≡◌, ◌≢◌, ℕ, ◌+◌, ◌-◌, Bool, true, false, not, List, [], ◌∷◌, ◌++◌, length, Option, None, Some, IfSome, slice_get, refl, sym, ap, subst, ◌∙◌, append_assoc, length-append, true≢false, arith}
 use Rattle.std.specs.Prelude.{Ok}
 use Rattle.std.proofs.Math.Seq.{get_or-append_seam}
 use Rattle.std.proofs.lemmas.Option.{slice_get-get_or}
@@ -9,20 +9,16 @@ use Rattle.cs_link.specs.declared.reading.Step.{Step}
 use Rattle.cs_link.specs.declared.refusal.ReadRefusal.{ReadRefusal}
 use Rattle.cs_link.specs.Causes.{counted}
 use Rattle.cs_link.specs.Reading.{is_closing}
-use Rattle.cs_steps.specs.Refusals.{refusal_by}
 use Rattle.cs_script.specs.Database.{Database}
 use Rattle.cs_read.specs.declared.reading.Reading.{Reading}
-use Rattle.cs_read.specs.Asked.{steps_asked}
 use Rattle.cs_read.specs.Content.{Content, IsReading, steps_ahead}
 use Rattle.cs_read.specs.Answers.{stream_steps}
 use Rattle.cs_read.specs.Honest.{IsState, given_as}
-use Rattle.cs_read.specs.Whole.{content_of}
 use Rattle.cs_server.specs.declared.kept.Kept.{Kept}
 use Rattle.cs_server.specs.declared.kept.Opening.{Opening}
 use Rattle.cs_server.specs.Going.{IsKeptIndex, IsGoing, HasGiven, HasMore, IsBegun, IsOpening, IsLink, content_at, left_of, link_of}
-use Rattle.cs_server.specs.State.{LinkState, IsWell, last_of, answer_to, next_step, is_taken, after_open, after_step}
+use Rattle.cs_server.specs.State.{last_of, answer_to, next_step, is_taken, after_open, after_step}
 use Rattle.cs_server.specs.Typed.{place_named, read_at, read_typed, refusal_to, refusal_of, steps_of, steps_given}
-use Rattle.cs_server.proofs.Asks.{content_is, refusal_at_is, steps_at_are}
 use Rattle.cs_server.proofs.Ends.{ends, ends_with, not_empty, stream_ends, answer_ends}
 
 -- the element between two lists
@@ -35,23 +31,6 @@ last_push asked args =
     ap (λ n. slice_get (asked ++ args ∷ []) n) end ∙ at_seam asked args []
 
 -- ---- the steps over an index
-
--- a READ over the index of its stream is that of the stream
-module _ (db : Database) (k : Kept) (held : IsKeptIndex db k) (args : ReadArgs) (moment : ℕ) (c : Content) (c_is : c ≡ content_at db k.place) (taken : refusal_to (read_at db (Some k.place) args) moment ≡ None) where
-  is_content : c ≡ content_of db held.stream held.layout
-  is_content = c_is ∙ content_is db k.place held.stream held.layout held.stream_at held.layout_at
-
-  pub not_refused : refusal_by c.parts c.created c.retention_us args moment ≡ None
-  not_refused = ap (λ (x : Content). refusal_by x.parts x.created x.retention_us args moment) is_content ∙ sym (refusal_at_is db k.place held.stream held.layout held.stream_at held.layout_at args moment) ∙ taken
-
-  pub begins : (r : Reading) → IsReading c r → steps_ahead c r ≡ steps_asked c.parts c.items args moment → IsBegun db k.place args moment k r
-  begins r holds all_is = record {
-    taken = taken;
-    holds = subst (λ (x : Content). IsReading x r) c_is holds;
-    all_is =
-        ap (λ (x : Content). steps_ahead x r) (sym c_is) ∙ all_is ∙ ap (λ (x : Content). steps_asked x.parts x.items args moment) is_content
-        ∙ sym (steps_at_are db k.place held.stream held.layout held.stream_at held.layout_at args moment);
-  }
 
 -- it gives a step
 pub gives_step : (db : Database) (all : List Step) (kept : Option Kept) (before : Option Reading) (k : Kept) (r now : Reading) (c : Content) (step : Step) → kept ≡ Some k → before ≡ Some r → c ≡ content_at db k.place → IsReading c now → steps_ahead c r ≡ step ∷ steps_ahead c now
@@ -143,10 +122,6 @@ module _ (db : Database) (moment caught_up : ℕ) (asked now : List ReadArgs) (a
     anew_view going reading =
         let t = begun_is db moment args made.0 k r made.1 made.3 in
         (t.0, taken_view db moment caught_up asked now args push t.0 k r t.1 kept going reading)
-
--- one that goes no more keeps what is true
-pub refused_link : (db : Database) (moment : ℕ) (now : List ReadArgs) (kept : Option Kept) (going : Option Reading) → IsState db → IsStamp moment → IfSome kept (IsKeptIndex db) → IsLink db moment now kept going false
-refused_link db moment now kept going state stamp index = record { state = state; stamp = stamp; index = index; goes = λ e. absurd (true≢false (sym e)) }
 
 -- ---- a `next`
 

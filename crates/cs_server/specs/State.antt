@@ -1,5 +1,5 @@
 -- What contracts see of a link over the state of a server, and what its calls make of it. This project's own.
-use Rattle.std.specs.Prelude.{◌≡◌, ◌+◌, ◌-◌, ◌∷◌, ◌++◌, [], ℕ, Bool, true, false, not, cond, List, length, take, Option, Some, None, Result, Ok, Err, slice_get, ⊤}
+use Rattle.std.specs.Prelude.{◌≡◌, ◌+◌, ◌-◌, ◌∷◌, ◌++◌, [], ℕ, Bool, true, false, not, List, length, take, Option, Some, None, Result, Ok, Err, slice_get, ⊤}
 use Rattle.std.specs.Option.{option_map}
 use Rattle.cs_types.specs.Stamp.{IsStamp}
 use Rattle.cs_link.specs.declared.reading.ReadArgs.{ReadArgs}

@@ -1,7 +1,7 @@
 ghost use Rattle.std.specs.Prelude.{◌≡◌, ℕ, List, Some, None, [], false};
 ghost use Rattle.cs_link.specs.declared.feed.Feed.{Feed as AFeed};
 ghost use Rattle.cs_link.specs.Honest.{IsHonestFor};
-ghost use Rattle.cs_server.specs.Laws.{AnswersAsQueries};
+ghost use Rattle.cs_server.specs.Laws.{AnswersAsQueries, FeedsAreTold};
 ghost use Rattle.cs_server.specs.Typed.{feed_told};
 
 use crate::ServerLink;
@@ -35,4 +35,10 @@ pub fn server_links_are_honest<'a>(
 /// arguments.
 pub fn answers_are_those_of_queries()
     ensures { AnswersAsQueries }
+{}
+
+/// A law: the feed that a link over a state tells under a name is that of the stream of this name,
+/// and it tells the feed of each stream that the state has.
+pub fn feeds_are_told_by_name()
+    ensures { FeedsAreTold }
 {}

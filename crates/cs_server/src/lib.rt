@@ -8,5 +8,5 @@ mod link;
 mod opening;
 mod places;
 
-pub use laws::{answers_are_those_of_queries, server_links_are_honest};
+pub use laws::{answers_are_those_of_queries, feeds_are_told_by_name, server_links_are_honest};
 pub use link::ServerLink;

@@ -61,7 +61,12 @@ fn refusal_at(
     requires { place < length state.now.streams }
     ensures { result ≡ refusal_to (read_at state.now (Some place) args.now) moment }
 {
-    refusal(args, stream_at(state, place), layout_at(state, place), moment)
+    refusal(
+        args,
+        stream_at(state, place),
+        layout_at(state, place),
+        moment,
+    )
 }
 
 /// The index that is kept, where it is that of the stream at a place.

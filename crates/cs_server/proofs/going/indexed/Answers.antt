@@ -1,4 +1,4 @@
-use Rattle.std.proofs.Common.{◌≡◌, List, subst, sym, arith}
+use Rattle.std.proofs.Common.{List, subst, arith}
 use Rattle.cs_schema.specs.declared.types.Table.{Table}
 use Rattle.cs_txn.specs.declared.txn.Modification.{Modification}
 use Rattle.cs_index.specs.Index.{IsStreamIndex}

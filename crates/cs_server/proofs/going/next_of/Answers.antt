@@ -1,4 +1,4 @@
-use Rattle.std.proofs.Common.{◌≡◌, Option, subst}
+use Rattle.std.proofs.Common.{Option, subst}
 use Rattle.std.specs.Prelude.{Ok}
 use Rattle.cs_link.specs.declared.reading.Step.{Step}
 use Rattle.cs_types.specs.declared.memory.Memory.{Memory}

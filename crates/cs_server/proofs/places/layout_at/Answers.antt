@@ -1,4 +1,4 @@
-use Rattle.std.proofs.Common.{◌≡◌, ◌<◌, ◌*◌, List, Some, length, slice_get, ap, arith}
+use Rattle.std.proofs.Common.{◌≡◌, ◌<◌, List, Some, length, slice_get, ap, arith}
 use Rattle.cs_partitions.specs.Layout.{StreamParts}
 use Rattle.cs_server.proofs.Layouts.{read_at, layout_count, layout_of}
 use Rattle.cs_server.proofs.places.layout_at.Goals as goal
@@ -25,5 +25,4 @@ pub offset_bounds-layouts-place : goal.offset_bounds-layouts-place
 offset_bounds-layouts-place c =
     let db = c.args.state.now in
     let lt : c.args.place < length c.layouts.result.now = omega (arith, c.requires, layout_count db.streams db.layouts c.layouts.ensures.kept.layouts, ap (λ (l : List StreamParts). length l) c.layouts.ensures.value) in
-    let size : length c.layouts.result.now * 88 < 9223372036854775808 = c.layouts.type_inv.1 in
-    omega (arith, lt, size)
+    omega (arith, lt, c.layouts.type_inv.1)

@@ -1,4 +1,3 @@
-use Rattle.std.proofs.Common.{◌≡◌}
 use Rattle.cs_server.proofs.Calls.{open_is_same}
 use Rattle.cs_server.proofs.Truth.{honest_kept, paced_present}
 use Rattle.cs_server.proofs.link.ServerLinkLink.open.Goals as goal
