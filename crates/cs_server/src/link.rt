@@ -1,4 +1,4 @@
-ghost use Rattle.std.specs.Prelude.{◌≡◌, ◌≤◌, ℕ, List, Some, Ok, IfOk, IfErr, OnOk, true, not};
+ghost use Rattle.std.specs.Prelude.{◌≡◌, ◌≤◌, ◌∷◌, ◌++◌, [], ℕ, List, Some, Ok, IfOk, IfErr, OnOk, OnErr, true, not};
 ghost use Rattle.cs_link.specs.Calls.{Opens, AddsRead, Goes, IsOfOpen, IsOfNext};
 ghost use Rattle.cs_link.specs.Causes.{HasFailed, counted, is_caught_up};
 ghost use Rattle.cs_link.specs.Honest.{IsHonestFor};
@@ -14,7 +14,7 @@ use crate::opening::prepare;
 use cs_link::{Closing, Link, LinkAnswer, ReadArgs, Step};
 use cs_read::{Reading, states_are_kept, streams_are_sound, typed_reads_are_honest};
 use cs_script::ServerState;
-use cs_types::{Duplicate, Items, Stamp};
+use cs_types::{Duplicate, Items, Memory, Stamp};
 use std::alloc::Global;
 use std::marker::Model;
 
@@ -90,7 +90,7 @@ impl<'a> ServerLink<'a> {
         ensures well { IsWell self.new }
     {
         let opening = prepare(self.alloc, self.state, &self.kept, args, self.moment)?;
-        self.asked.push(args.copy()?)?;
+        list(&mut self.asked, args)?;
         match opening {
             Opening::Refused(refusal) => {
                 self.reading = false;
@@ -121,6 +121,14 @@ impl<'a> ServerLink<'a> {
         self.caught_up = counted(self.caught_up, &step);
         Ok(step)
     }
+}
+
+/// Puts the arguments of a READ behind the others.
+fn list(asked: &mut Items<ReadArgs>, args: &ReadArgs) -> Result<(), Memory>
+    ensures ok { OnOk result (asked.new ≡ asked.old ++ args.now ∷ []) }
+    ensures err { OnErr result (asked.new ≡ asked.old) }
+{
+    asked.push(args.copy()?)
 }
 
 fn is_closing(step: &Step) -> bool
