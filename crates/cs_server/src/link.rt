@@ -20,23 +20,26 @@ use std::marker::Model;
 
 /// A link over the state of a server, at a moment, without bytes. It answers each READ as `read`
 /// answers a query with the same arguments, and never `Failed` nor `BadLine`, so its count of faults
-/// stays 0. Contracts see its state, its moment and its list of READs.
+/// stays 0. Contracts see its state, its moment, the list of its READs, and how many steps the last
+/// one gave.
 ///
 /// The first `open` of a stream makes the index of the stream, which costs a capture of each
 /// modification and takes 8 bytes for each change that the stream captures and 48 for each data
 /// record. The index of one stream is kept: an `open` of the same stream uses it again, and an
-/// `open` of another one makes another in its place, which stands beside it until it is done. Where
-/// the index is there, a READ of k steps over a stream of n changes costs its steps, k, and a search
-/// for its beginning and its end, a logarithm of n; a page is never laid out, and a READ that is not
-/// read to its end costs what was read of it. Each `open` goes over the streams, and over the parts
-/// of its stream where it has no token.
+/// `open` of another one makes another in its place, beside which the first stands until the `open`
+/// is done. Where the index is there, a READ of k steps over a stream of n changes costs its steps,
+/// k, and a search for its beginning and its end, a logarithm of n; a page is never laid out, and a
+/// READ that is not read to its end costs what was read of it. Each `open` goes over the streams,
+/// of which there are few, and over the parts of its stream where it has no token. The arguments of
+/// each READ are kept, as contracts tell them; their texts are shared.
 ///
 /// `open` answers `Refused` with the first of these that holds: `UnknownFunction`, where the state
 /// has no stream of the name, `Heartbeat`, `EndBeforeStart`, `StartBeforeCreation`, `StartTooOld`,
 /// `StartInFuture`, `UnknownToken`, `StartBeforePartition`, `StartPastPartition`; the other refusals
 /// are of queries whose arguments are not typed. A refused READ makes no index. It answers `Memory`
 /// where memory is wanting, also in place of a refusal; the link is then what it was, with the READ
-/// that was open before. `next` answers `Memory` alone, and the same call again gives the step.
+/// that was open before. `next` gives the next step of the answer, and has no other fault than
+/// `Memory`; the same call again then gives the step.
 #[derive(Drop)]
 pub struct ServerLink<'a> {
     alloc: Global,
