@@ -2,7 +2,7 @@
 use Rattle.std.proofs.Common.{◌≡◌, ◌<◌, ◌≤◌, ◌+◌, ◌-◌, ℕ, zero, suc, List, [], ◌∷◌, ◌++◌, length, take, drop, min, Option, None, Some, IfSome, Result, Ok, Err, IfOk, IfErr, Bool, true, false, nat_lt, refl, sym, ap, subst, ◌∙◌, append_assoc, append-nil, arith}
 use Rattle.std.specs.Io.KnownBytes.{Consumes, IsAtEnd}
 use Rattle.std.proofs.lemmas.List.{length-append, length-take, take_all, take-append-drop}
-use Rattle.std.proofs.Math.Seq.{take-append-add}
+use Rattle.std.proofs.Math.Seq.{take-append-add, take-nil}
 use Rattle.cs_script.specs.Progress.{HasRead, IsGiven}
 use Rattle.cs_script.specs.Script.{most_bytes, IsReadOf}
 use Rattle.cs_script.specs.declared.reader.Reader.{Reader}
@@ -34,6 +34,18 @@ pub IfErr-some : {T E : Type 0} (r : Result T E) (first : Option (List ℕ)) (Q 
 IfErr-some (Ok t) first Q h = tt
 IfErr-some (Err e) None Q h = tt
 IfErr-some (Err e) (Some b) Q h = h
+
+consumes_none : (first : Option (List ℕ)) → Consumes first first []
+consumes_none None = tt
+consumes_none (Some xs) = refl
+
+-- before the first piece
+pub given_none : (first : Option (List ℕ)) (reader : Reader) → HasRead reader [] → IsGiven first first reader 0 []
+given_none first reader none = record {
+  taken = consumes_none first;
+  given = subst (λ (l : List ℕ). HasRead reader l) (sym (take-nil most_bytes)) none;
+  count = refl;
+}
 
 module _ (first before after : Option (List ℕ)) (reader : Reader) (total : ℕ) (bytes piece : List ℕ) (count : ℕ)
     (is : IsGiven first before reader total bytes) (small : total ≤ most_bytes) (read : Consumes before after (take count piece)) where

@@ -1,8 +1,8 @@
-use Rattle.std.proofs.Common.{◌≤◌, ◌∙◌, [], IfOk, IfErr, Ok, Err, arith, sym}
+use Rattle.std.proofs.Common.{◌≤◌, ◌∙◌, [], IfOk, IfErr, Ok, Err, arith, refl, sym}
 use Rattle.cs_script.specs.Script.{most_bytes, Makes, of_script}
 use Rattle.cs_script.proofs.Advancing.{short_makes, refused_makes, long_makes}
 use Rattle.cs_script.proofs.Doing.{if_ok, if_err}
-use Rattle.cs_script.proofs.SourceSteps.{at_end, before_rest, kept_short, given_more, long_given, given_bytes, IfOk-some, IfErr-some, read_of, read_more}
+use Rattle.cs_script.proofs.SourceSteps.{at_end, before_rest, kept_short, given_more, given_none, long_given, given_bytes, IfOk-some, IfErr-some, read_of, read_more}
 use Rattle.cs_script.proofs.loading.load.Goals as goal
 
 pub returns-then-count-eq0-clause-made : goal.returns-then-count-eq0-clause-made
@@ -48,6 +48,16 @@ returns-in-Err-clause-read g c =
     let small : c.pieces.total ≤ most_bytes = omega (arith, c.pieces-test.true) in
     read_more (g.S.Source.left c.args.source.now) (g.S.Source.left c.pieces.source) (g.S.Source.left c.read_piece.new.source) c.pieces.reader c.pieces.total c.pieces.invariant.given.0 c.read_piece.new.piece.items c.in-Ok.count
     c.pieces.invariant.given.1 c.in-Ok.ensures.bytes (omega (arith, small, c.in-Ok.ensures.within))
+
+pub pieces-init : goal.pieces-init
+pieces-init g c =
+    record {
+      given = ([], given_none (g.S.Source.left c.args.source.now) c.new-reader.result c.new-reader.ensures);
+      object = g.met.S.Source.same_now _;
+      calm = refl;
+      room = omega (arith, c.in_ok-piece.ensures);
+      total = omega arith;
+    }
 
 pub pieces-preserved : goal.pieces-preserved
 pieces-preserved g c =
