@@ -36,3 +36,4 @@ pub use growing::{boards_are_of_entries, boards_stay_consistent, leases_are_no_e
 pub use plan::PlanFault;
 pub use planned::Plan;
 pub use row::Row;
+pub use theory::{consistent_journals_are_good, journals_stay_consistent, right_steps_are_good, rows_stay_right};
