@@ -1,10 +1,9 @@
 -- The moments of the unfinished rows, in rising order: what becomes of them where rows change, and the least of them.
-use Rattle.std.proofs.Common.{◌≡◌, ◌⊎◌, ℕ, zero, suc, ◌+◌, ◌-◌, ◌<◌, ◌≤◌, min, Bool, true, false, cond, ◌&&◌, ◌||◌, Option, Some, None, List, [], ◌∷◌, length, map, get_or, drop, drop-cons, add-one, ⊎_elim, inl, inr, sym, refl, ap, ◌∙◌, subst, arith, true≢false, Contains, leb, eqb}
-use Rattle.std.specs.List.{insert, remove}
+use Rattle.std.proofs.Common.{◌≡◌, ◌⊎◌, ℕ, zero, suc, ◌-◌, ◌<◌, ◌≤◌, min, Bool, true, false, cond, ◌&&◌, ◌||◌, Option, Some, None, List, [], ◌∷◌, length, get_or, ⊎_elim, inl, inr, sym, refl, ap, ◌∙◌, subst, arith, true≢false, Contains, leb, eqb}
 use Rattle.std.proofs.lemmas.Bool.{cases_lt, leb-true, le-leb, eqb-true, eq-eqb}
 use Rattle.cs_schedule.specs.declared.row.Row.{Row}
 use Rattle.cs_schedule.specs.declared.update.Moved.{Moved}
-use Rattle.cs_schedule.specs.Board.{changed_at, changed_there, leased, given_back, fresh}
+use Rattle.cs_schedule.specs.Board.{changed_at}
 use Rattle.cs_schedule.specs.Fold.{has_no_row}
 use Rattle.cs_schedule.specs.Update.{moved, with_moved, updated}
 use Rattle.cs_schedule.specs.Consistent.{put_row, put_rows}
@@ -13,17 +12,17 @@ use Rattle.cs_schedule.specs.Rows.{next_of, least_next, low_watermark}
 use Rattle.cs_schedule.proofs.Among.{before}
 use Rattle.cs_schedule.proofs.Tools.{in_nil, in_head, in_tail, in_cons}
 
-above : (a b : ℕ) → leb a b ≡ false → b < a
+pub above : (a b : ℕ) → leb a b ≡ false → b < a
 above a b h = ⊎_elim (λ (l : b < a). l) (λ (l : a ≤ b). absurd (true≢false (sym (le-leb a b l) ∙ h))) (cases_lt b a)
 
-not_le : (a b : ℕ) → b < a → leb a b ≡ false
+pub not_le : (a b : ℕ) → b < a → leb a b ≡ false
 not_le a b l = by (leb a b) refl
   where
     by : (x : Bool) → leb a b ≡ x → leb a b ≡ false
     by true q = let u = leb-true a b q in absurd (omega (arith, l, u))
     by false q = q
 
-not_eq : (a b : ℕ) → (a ≡ b → ⊥) → eqb a b ≡ false
+pub not_eq : (a b : ℕ) → (a ≡ b → ⊥) → eqb a b ≡ false
 not_eq a b n = by (eqb a b) refl
   where
     by : (x : Bool) → eqb a b ≡ x → eqb a b ≡ false
@@ -119,12 +118,6 @@ open_changed f rows i x l e =
     apart_at f rows i x l e
     ∙ ap (put_open (f x)) (sym (ap (take_open x) (parted rows i x l e) ∙ take_put_open x (open_of (without i rows))))
 
--- a change that leaves moments leaves all
-pub open_kept : (f : Row → Row) → ((r : Row) → ((f r).finished ≡ r.finished) × ((f r).through ≡ r.through)) → (rows : List Row) (i : ℕ) → open_of (changed_at f i rows) ≡ open_of rows
-open_kept f h [] i = refl
-open_kept f h (r ∷ rows) zero = let p = h r in λ i. cond (p.0 i) (open_of rows) (put_number (p.1 i) (open_of rows))
-open_kept f h (r ∷ rows) (suc i) = ap (put_open r) (open_kept f h rows i)
-
 open_put : (r : Row) (rows : List Row) → open_of (put_row r rows) ≡ put_open r (open_of rows)
 open_put r [] = refl
 open_put r (a ∷ rows) = by (before r.token a) (open_put r rows)
@@ -148,14 +141,6 @@ in_number n (m ∷ ms) k i = by (leb n m) i (in_number n ms k)
     by true j f = in_cons n k (m ∷ ms) j
     by false j f = ⊎_elim (λ (e : k ≡ m). inr (subst (λ z. Contains (m ∷ ms) z) (sym e) (in_head m ms))) (λ (l : Contains (put_number n ms) k). ⊎_elim (λ (e : k ≡ n). inl e) (λ (o : Contains ms k). inr (in_tail m k ms o)) (f l)) (in_cons m k (put_number n ms) j)
 
-pub number_in : (n : ℕ) (ms : List ℕ) → Contains (put_number n ms) n
-number_in n [] = in_head n []
-number_in n (m ∷ ms) = by (leb n m) (number_in n ms)
-  where
-    by : (b : Bool) → Contains (put_number n ms) n → Contains (cond b (n ∷ m ∷ ms) (m ∷ put_number n ms)) n
-    by true f = in_head n (m ∷ ms)
-    by false f = in_tail m n (put_number n ms) f
-
 pub put_rises : (n : ℕ) (ms : List ℕ) → DoRise ms → DoRise (put_number n ms)
 put_rises n [] h = (λ k i. absurd (in_nil k i), tt)
 put_rises n (m ∷ ms) h = by (leb n m) refl (put_rises n ms h.1)
@@ -175,11 +160,6 @@ pub open_rises : (rows : List Row) → DoRise (open_of rows)
 open_rises [] = tt
 open_rises (r ∷ rows) = put_open_rises r (open_of rows) (open_rises rows)
 
--- a moment of an unfinished row is there
-pub open_there : (rows : List Row) (i : ℕ) (x : Row) → i < length rows → x ≡ get_or rows i x → x.finished ≡ false → Contains (open_of rows) x.through
-open_there rows i x l e f =
-    subst (λ z. Contains z x.through) (sym (parted rows i x l e ∙ ap (λ b. cond b (open_of (without i rows)) (put_number x.through (open_of (without i rows)))) f)) (number_in x.through (open_of (without i rows)))
-
 out_from : (n : ℕ) (ms : List ℕ) (k : ℕ) → Contains (take_out n ms) k → Contains ms k
 out_from n [] k i = i
 out_from n (m ∷ ms) k i = by (eqb m n) i (out_from n ms k)
@@ -188,65 +168,7 @@ out_from n (m ∷ ms) k i = by (eqb m n) i (out_from n ms k)
     by true j f = in_tail m k ms j
     by false j f = ⊎_elim (λ (e : k ≡ m). subst (λ z. Contains (m ∷ ms) z) (sym e) (in_head m ms)) (λ (l : Contains (take_out n ms) k). in_tail m k ms (f l)) (in_cons m k (take_out n ms) j)
 
-pub out_rises : (n : ℕ) (ms : List ℕ) → DoRise ms → DoRise (take_out n ms)
-out_rises n [] h = tt
-out_rises n (m ∷ ms) h = by (eqb m n) (out_rises n ms h.1)
-  where
-    by : (b : Bool) → DoRise (take_out n ms) → DoRise (cond b ms (m ∷ take_out n ms))
-    by true f = h.1
-    by false f = (λ k i. h.0 k (out_from n ms k i), f)
-
 -- ---- places
-
-pub number_at : (n : ℕ) (ms : List ℕ) (i : ℕ) → i ≤ length ms → ((k d : ℕ) → k < i → leb n (get_or ms k d) ≡ false) → ((d : ℕ) → i < length ms → leb n (get_or ms i d) ≡ true) → put_number n ms ≡ insert ms i n
-number_at n [] zero l below over = refl
-number_at n [] (suc i) l below over = absurd (omega (arith, l))
-number_at n (m ∷ ms) zero l below over = ap (λ b. cond b (n ∷ m ∷ ms) (m ∷ put_number n ms)) (over n (omega arith))
-number_at n (m ∷ ms) (suc i) l below over =
-    ap (λ b. cond b (n ∷ m ∷ ms) (m ∷ put_number n ms)) (below 0 n (omega arith))
-    ∙ ap (λ l. m ∷ l) (number_at n ms i (omega (arith, l)) (λ k d o. below (suc k) d (omega (arith, o))) (λ d o. over d (omega (arith, o))))
-
--- a number that is there stands at the first place that is not below it
-pub out_at : (n : ℕ) (ms : List ℕ) (i : ℕ) → DoRise ms → Contains ms n → i ≤ length ms → ((k d : ℕ) → k < i → leb n (get_or ms k d) ≡ false) → ((d : ℕ) → i < length ms → leb n (get_or ms i d) ≡ true) → (i < length ms) × (take_out n ms ≡ remove ms i)
-out_at n [] i h c l below over = absurd (in_nil n c)
-out_at n (m ∷ ms) zero h c l below over =
-    let low = leb-true n m (over n (omega arith)) in
-    let same : m ≡ n = ⊎_elim (λ (e : n ≡ m). sym e) (λ (j : Contains ms n). let o = h.0 n j in omega (arith, low, o)) (in_cons m n ms c) in
-    (omega arith, ap (λ b. cond b ms (m ∷ take_out n ms)) (eq-eqb m n same))
-out_at n (m ∷ ms) (suc i) h c l below over =
-    let high = above n m (below 0 n (omega arith)) in
-    let there : Contains ms n = ⊎_elim (λ (e : n ≡ m). absurd (omega (arith, high, e))) (λ (j : Contains ms n). j) (in_cons m n ms c) in
-    let u = out_at n ms i h.1 there (omega (arith, l)) (λ k d o. below (suc k) d (omega (arith, o))) (λ d o. over d (omega (arith, o))) in
-    (omega (arith, u.0), ap (λ b. cond b ms (m ∷ take_out n ms)) (not_eq m n (λ e. omega (arith, high, e))) ∙ ap (λ l. m ∷ l) u.1)
-
-rises_at : (ms : List ℕ) (i j d : ℕ) → DoRise ms → i ≤ j → j < length ms → get_or ms i d ≤ get_or ms j d
-rises_at [] i j d h l o = absurd (omega (arith, o))
-rises_at (m ∷ ms) zero zero d h l o = omega arith
-rises_at (m ∷ ms) zero (suc j) d h l o = h.0 (get_or ms j d) (at ms j (omega (arith, o)))
-  where
-    at : (ms : List ℕ) (i : ℕ) → i < length ms → Contains ms (get_or ms i d)
-    at [] i l = absurd (omega (arith, l))
-    at (a ∷ ms) zero l = in_head a ms
-    at (a ∷ ms) (suc i) l = in_tail a (get_or ms i d) ms (at ms i (omega (arith, l)))
-rises_at (m ∷ ms) (suc i) zero d h l o = absurd (omega (arith, l))
-rises_at (m ∷ ms) (suc i) (suc j) d h l o = rises_at ms i j d h.1 (omega (arith, l)) (omega (arith, o))
-
-pub at_any : (xs : List ℕ) (k e d : ℕ) → k < length xs → get_or xs k e ≡ get_or xs k d
-at_any [] k e d n = absurd (omega (arith, n))
-at_any (x ∷ xs) zero e d n = refl
-at_any (x ∷ xs) (suc k) e d n = at_any xs k e d (omega (arith, n))
-
-pub over_more : (ms : List ℕ) (n i j d : ℕ) → DoRise ms → i ≤ j → j < length ms → n ≤ get_or ms i 0 → leb n (get_or ms j d) ≡ true
-over_more ms n i j d h l o low =
-    let up = rises_at ms i j d h l o in
-    let same : get_or ms i 0 ≡ get_or ms i d = at_any ms i 0 d (omega (arith, l, o)) in
-    le-leb n (get_or ms j d) (omega (arith, up, same, low))
-
-pub below_less : (ms : List ℕ) (n i j d : ℕ) → DoRise ms → j ≤ i → i < length ms → get_or ms i 0 < n → leb n (get_or ms j d) ≡ false
-below_less ms n i j d h l o high =
-    let up = rises_at ms j i d h l o in
-    let same : get_or ms i 0 ≡ get_or ms i d = at_any ms i 0 d o in
-    not_le n (get_or ms j d) (omega (arith, up, same, high))
 
 -- ---- the least
 
@@ -289,56 +211,11 @@ least_puts e (r ∷ new) ms = least_puts e new (put_open r ms) ∙ ap (λ m. lea
     by true = refl
     by false = least_put e r.through ms
 
-pub open_map : (f : Row → Row) → ((r : Row) → ((f r).finished ≡ r.finished) × ((f r).through ≡ r.through)) → (rows : List Row) → open_of (map f rows) ≡ open_of rows
-open_map f h [] = refl
-open_map f h (r ∷ rows) = let p = h r in λ i. put_as (p.0 i) (p.1 i) (open_map f h rows i)
-  where
-    put_as : Bool → ℕ → List ℕ → List ℕ
-    put_as b n ms = cond b ms (put_number n ms)
-
-pub number_longer : (n : ℕ) (ms : List ℕ) → length (put_number n ms) ≡ suc (length ms)
-number_longer n [] = refl
-number_longer n (m ∷ ms) = by (leb n m) (number_longer n ms)
-  where
-    by : (b : Bool) → length (put_number n ms) ≡ suc (length ms) → length (cond b (n ∷ m ∷ ms) (m ∷ put_number n ms)) ≡ suc (suc (length ms))
-    by true f = refl
-    by false f = ap suc f
-
-pub open_shorter : (rows : List Row) → length (open_of rows) ≤ length rows
-open_shorter [] = omega arith
-open_shorter (r ∷ rows) = by r.finished (open_shorter rows)
-  where
-    by : (b : Bool) → length (open_of rows) ≤ length rows → length (cond b (open_of rows) (put_number r.through (open_of rows))) ≤ suc (length rows)
-    by true h = omega (arith, h)
-    by false h = let l = number_longer r.through (open_of rows) in omega (arith, h, l)
-
-pub next_row : (rows : List Row) (i : ℕ) (x : Row) → x ≡ get_or rows i x → i < length rows → drop i rows ≡ x ∷ drop (i + 1) rows
-next_row rows i x is l = drop-cons rows i x l ∙ rw (← is, add-one) refl
-
-pub open_longer : (r : Row) (ms : List ℕ) → length (put_open r ms) ≤ suc (length ms)
-open_longer r ms = by r.finished
-  where
-    by : (b : Bool) → length (cond b ms (put_number r.through ms)) ≤ suc (length ms)
-    by true = omega arith
-    by false = let l = number_longer r.through ms in omega (arith, l)
-
-pub out_shorter : (n : ℕ) (ms : List ℕ) → Contains ms n → suc (length (take_out n ms)) ≡ length ms
-out_shorter n [] i = absurd (in_nil n i)
-out_shorter n (m ∷ ms) i = by (eqb m n) refl (out_shorter n ms)
-  where
-    by : (b : Bool) → eqb m n ≡ b → (Contains ms n → suc (length (take_out n ms)) ≡ length ms) → suc (length (cond b ms (m ∷ take_out n ms))) ≡ suc (length ms)
-    by true q f = refl
-    by false q f = ⊎_elim (λ (e : n ≡ m). absurd (true≢false (sym (eq-eqb m n (sym e)) ∙ q))) (λ (j : Contains ms n). ap suc (f j)) (in_cons m n ms i)
-
 pub least_head : (e : ℕ) (ms : List ℕ) → DoRise ms → 0 < length ms → least e ms ≡ min (suc (get_or ms 0 0)) (suc e)
 least_head e [] h l = absurd (omega (arith, l))
 least_head e (m ∷ ms) h l = least_first e m ms h
 
 -- ---- the watermark
-
-pub no_mark : (e : ℕ) (rows : List Row) → has_no_row rows ≡ true → low_watermark e rows ≡ None
-no_mark e [] h = refl
-no_mark e (r ∷ rows) h = absurd (true≢false (sym h))
 
 pub some_mark : (e n : ℕ) (rows : List Row) → has_no_row rows ≡ false → suc n ≡ least e (open_of rows) → low_watermark e rows ≡ Some n
 some_mark e n [] h q = absurd (true≢false h)
@@ -392,13 +269,3 @@ least_moves e r m ms p q =
     ∙ least_put e m.through (take_out r.through ms)
 
 -- ---- rows that nobody reads, or somebody
-
-pub open_leased : (rows : List Row) (i : ℕ) → open_of (changed_at leased i rows) ≡ open_of rows
-open_leased = open_kept leased (λ r. (refl, refl))
-
-pub open_given : (caught_up : Bool) (o : Option ℕ) (rows : List Row) → open_of (changed_there (given_back caught_up) o rows) ≡ open_of rows
-open_given caught_up None rows = refl
-open_given caught_up (Some i) rows = open_kept (given_back caught_up) (λ r. (refl, refl)) rows i
-
-pub open_fresh : (rows : List Row) → open_of (map fresh rows) ≡ open_of rows
-open_fresh = open_map fresh (λ r. (refl, refl))

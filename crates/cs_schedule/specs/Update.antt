@@ -1,5 +1,5 @@
 -- What an entry makes of the rows of a board, and which plans are of a board as it stands. This project's own.
-use Rattle.std.specs.Prelude.{◌≡◌, ◌⊎◌, ◌↔◌, ℕ, ◌+◌, ◌<◌, ◌≤◌, true, ◌||◌, ⊤, List, [], length, Option, Some, None, Result, Ok, Err, Contains}
+use Rattle.std.specs.Prelude.{◌≡◌, ◌⊎◌, ◌↔◌, ℕ, ◌+◌, ◌<◌, ◌≤◌, true, false, ◌||◌, ⊤, List, [], length, Option, Some, None, Result, Ok, Err, Contains}
 use Rattle.cs_link.specs.declared.batch.Batch.{Batch}
 use Rattle.cs_link.specs.declared.batch.NewChild.{NewChild}
 use Rattle.cs_schedule.specs.declared.entry.Entry.{Entry}
@@ -28,6 +28,9 @@ IsThere (Some m) rows = m.place < length rows
 -- rows of which one was read on, and new ones among them
 abbrev pub updated : Option Moved → List Row → List Row → List Row
 updated m new rows = put_rows new (with_moved m rows)
+
+abbrev pub AreUnfinished : List Row → Type 0
+AreUnfinished rows = (r : Row) → Contains rows r → r.finished ≡ false
 
 -- a plan: its entry, what the entry makes of rows, and how many rows it brings memory for
 pub record Planned : Type 0 where

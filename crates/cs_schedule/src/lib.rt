@@ -9,10 +9,10 @@ mod entry;
 mod fold;
 mod follow;
 mod growing;
+mod index;
 mod judge;
 mod known;
 mod list;
-mod moments;
 mod opening;
 mod plan;
 mod planned;
@@ -22,6 +22,7 @@ mod ready;
 mod row;
 mod search;
 mod size;
+mod slots;
 mod sound;
 mod theory;
 mod turn;
@@ -36,4 +37,6 @@ pub use growing::{boards_are_of_entries, boards_stay_consistent, leases_are_no_e
 pub use plan::PlanFault;
 pub use planned::Plan;
 pub use row::Row;
-pub use theory::{consistent_journals_are_good, journals_stay_consistent, right_steps_are_good, rows_stay_right};
+pub use theory::{
+    consistent_journals_are_good, journals_stay_consistent, right_steps_are_good, rows_stay_right,
+};
