@@ -12,7 +12,7 @@ use Rattle.cs_schedule.specs.Index.{slot_le, AreSorted, put_slot, put_key, slots
 use Rattle.cs_schedule.specs.Open.{put_number, open_of, DoRise}
 use Rattle.cs_schedule.proofs.Indexed.{length_keys, key_at, row_there}
 use Rattle.cs_schedule.proofs.Places.{ordered_at}
-use Rattle.cs_schedule.proofs.Sorted.{Before, Under, le_true, le_false, at_any, sorted_at, slots_sorted, in_slots, slot_there}
+use Rattle.cs_schedule.proofs.Sorted.{Before, Under, le_true, le_false, at_in, at_any, sorted_at, slots_sorted, in_slots, slot_there}
 use Rattle.cs_schedule.proofs.Tools.{in_nil, in_head, in_tail, from_map}
 use Rattle.cs_schedule.proofs.Unfinished.{not_le, not_eq, open_rises}
 
@@ -89,8 +89,11 @@ open_is r h = ap (λ b. cond b None (Some r.through)) h
 open_there : (rows : List Row) (a : Row) (i : Contains rows a) → a.finished ≡ false → Contains (opens_of rows) (record { key = a.through; place = i.0 })
 open_there rows a i u = slot_there (map open_key rows) i.0 a.through (omega (arith, i.1, length_keys open_key rows)) (key_at open_key rows i.0 a i.1 (sym i.2) ∙ open_is a u)
 
-pub head_inside : (rows : List Row) (s : Slot) → Contains (opens_of rows) s → s.place < length rows
+head_inside : (rows : List Row) (s : Slot) → Contains (opens_of rows) s → s.place < length rows
 head_inside rows s i = let u = in_slots 0 (map open_key rows) s i in omega (arith, u.inside, u.place, length_keys open_key rows)
+
+pub place_inside : (rows : List Row) (ss : List Slot) (i : ℕ) (d : Slot) → ss ≡ opens_of rows → i < length ss → (get_or ss i d).place < length rows
+place_inside rows ss i d e l = head_inside rows (get_or ss i d) (subst (λ z. Contains z (get_or ss i d)) e (at_in ss i d l))
 
 pub all_finished : (rows : List Row) → opens_of rows ≡ [] → (r : Row) → Contains rows r → r.finished ≡ true
 all_finished rows e r i =

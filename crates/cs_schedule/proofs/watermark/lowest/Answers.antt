@@ -1,23 +1,10 @@
-use Rattle.std.proofs.Common.{rules, ◌<◌, ◌∙◌, sym, subst, length, get_or, Contains, arith}
+use Rattle.std.proofs.Common.{◌<◌, ◌∙◌, sym, subst, length, get_or, arith}
 use Rattle.cs_schedule.specs.declared.row.Row.{Row}
 use Rattle.cs_schedule.specs.declared.slots.Slot.{Slot}
 use Rattle.cs_schedule.specs.Board.{IsLowestPair}
-use Rattle.cs_schedule.proofs.Sorted.{at_any, at_in}
-use Rattle.cs_schedule.proofs.Turns.{head_inside, all_finished, lowest_is, none_of}
+use Rattle.cs_schedule.proofs.Sorted.{at_any}
+use Rattle.cs_schedule.proofs.Turns.{all_finished, lowest_is, none_of}
 use Rattle.cs_schedule.proofs.watermark.lowest.Goals as goal
-
-pub bounds-rows-first : goal.bounds-rows-first
-bounds-rows-first c =
-    let d : Slot = record { key = 0; place = 0 } in
-    let some : 0 < length c.args.opens.now = omega (arith, c.in-len1-up.len_at_least) in
-    head_inside c.args.rows.now (get_or c.args.opens.now 0 d) (subst (λ z. Contains z (get_or c.args.opens.now 0 d)) c.requires.opens (at_in c.args.opens.now 0 d some))
-
-pub offset_bounds-rows-first : goal.offset_bounds-rows-first
-offset_bounds-rows-first c =
-    let d : Slot = record { key = 0; place = 0 } in
-    let some : 0 < length c.args.opens.now = omega (arith, c.in-len1-up.len_at_least) in
-    let inside : (get_or c.args.opens.now 0 d).place < length c.args.rows.now = head_inside c.args.rows.now (get_or c.args.opens.now 0 d) (subst (λ z. Contains z (get_or c.args.opens.now 0 d)) c.requires.opens (at_in c.args.opens.now 0 d some)) in
-    search rules
 
 pub returns-in-empty : goal.returns-in-empty
 returns-in-empty c = all_finished c.args.rows.now (sym c.requires.opens ∙ none_of c.args.opens.now (omega (arith, c.in-empty.len_below)))
