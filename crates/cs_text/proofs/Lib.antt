@@ -1,0 +1,4 @@
+pub mod Fronts
+pub mod Good
+pub mod Growing
+pub mod Marks
