@@ -1,0 +1,129 @@
+-- What holds of all rows still holds of them behind an entry, and behind a try.
+use Rattle.std.proofs.Common.{◌≡◌, ◌⊎◌, ℕ, zero, suc, ◌≤◌, ◌-◌, ◌+◌, ◌*◌, Bool, true, false, not, List, [], ◌∷◌, Option, Some, None, ⊎_elim, inl, inr, sym, refl, ap, ◌∙◌, subst, arith, true≢false, map, length, Contains, bytes_eq}
+use Rattle.std.proofs.lemmas.Bool.{cases_Bool}
+use Rattle.cs_link.specs.declared.batch.Batch.{Batch}
+use Rattle.cs_link.specs.declared.batch.NewChild.{NewChild}
+use Rattle.cs_schedule.specs.declared.entry.Entry.{Entry}
+use Rattle.cs_schedule.specs.declared.entry.Entry.TheVariants.{Opened}
+use Rattle.cs_schedule.specs.declared.row.Row.{Row}
+use Rattle.cs_schedule.specs.Board.{IsOrdered, changed_at, changed_there, given_back, place_of, fresh}
+use Rattle.cs_schedule.specs.Consistent.{news, through_by, born, advanced, has_row, put_rows, rowless}
+use Rattle.cs_schedule.specs.Update.{applied}
+use Rattle.cs_tail.specs.Due.{AreFree, AreWithin, IsWithin}
+use Rattle.cs_tail.specs.Left.{row_left, row_most, rows_left, left_of}
+use Rattle.cs_tail.specs.Turn.{tried}
+use Rattle.cs_tail.proofs.Planned.{Ends, Brings, Idles}
+use Rattle.cs_tail.proofs.Rows.{puts_from, advanced_row, its, other, row_at}
+use Rattle.cs_tail.proofs.Tools.{in_nil, in_head, in_tail, in_cons, from_map, from_filter, bytes_same, bytes_itself}
+
+same_row : (rows : List Row) (a r : Row) → IsOrdered rows → Contains rows a → Contains rows r → a.token ≡ r.token → a ≡ r
+same_row rows a r O i j h = let same : Some a ≡ Some r = sym (row_at rows r.token a O i h) ∙ row_at rows r.token r O j refl in cc
+
+-- what a property of rows needs, to hold of those behind an entry of the row r
+pub record Lasts (P : Row → Type 0) (rows : List Row) (r : Row) (b : Batch) : Type 0 where
+  pub old : (y : Row) → Contains rows y → P y
+  pub moved : (fin : Bool) → P (advanced_row r.token (through_by r b) (news r b) fin r)
+  pub new : (x : NewChild) → Contains b.children x → P (born x)
+
+module _ (P : Row → Type 0) (s : ℕ) (rows : List Row) (r : Row) (b : Batch) (O : IsOrdered rows) (there : Contains rows r) (L : Lasts P rows r b) where
+  of_front : (fin : Bool) (y : Row) → Contains (map (advanced r.token (through_by r b) (news r b) fin) rows) y → P y
+  of_front fin y i =
+      let u = from_map (advanced r.token (through_by r b) (news r b) fin) y rows i in
+      ⊎_elim
+      (λ (q : bytes_eq r.token u.0.token ≡ true).
+      let same : u.0 ≡ r = same_row rows u.0 r O u.1 there (sym (bytes_same r.token u.0.token q)) in
+      subst P (sym (u.2 ∙ ap (advanced r.token (through_by r b) (news r b) fin) same ∙ its r.token (through_by r b) (news r b) fin r refl)) (L.moved fin))
+      (λ (q : bytes_eq r.token u.0.token ≡ false). subst P (sym (u.2 ∙ other r.token (through_by r b) (news r b) fin u.0 (λ same. true≢false (sym (subst (λ z. bytes_eq r.token z ≡ true) (sym same) (bytes_itself r.token)) ∙ q)))) (L.old u.0 u.1))
+      (cases_Bool (bytes_eq r.token u.0.token))
+
+  pub ends_last : (o : Option Entry) → Ends r b o → (y : Row) → Contains (applied s rows o) y → P y
+  ends_last o E y i =
+      let front = map (advanced r.token (through_by r b) (news r b) true) rows in
+      let new = map born (rowless rows b.children) in
+      ⊎_elim
+      (λ (j : Contains new y).
+      let u = from_map born y (rowless rows b.children) j in
+      let v = from_filter (λ x. not (has_row x.token rows)) u.0 b.children u.1 in
+      subst P (sym u.2) (L.new u.0 v.0))
+      (λ (j : Contains front y). of_front true y j)
+      (puts_from new front y (subst (λ l. Contains l y) (ap (applied s rows) E.entry) i))
+
+  pub brings_last : (o : Option Entry) → Brings r b o → (y : Row) → Contains (applied s rows o) y → P y
+  brings_last o B y i = of_front false y (subst (λ l. Contains l y) (ap (applied s rows) B.entry) i)
+
+  pub idles_last : (o : Option Entry) → Idles r b o → (y : Row) → Contains (applied s rows o) y → P y
+  idles_last o I y i = L.old y (subst (λ l. Contains l y) (ap (applied s rows) I.entry) i)
+
+pub opened_last : (P : Row → Type 0) (s : ℕ) (rows : List Row) (tokens : List (List ℕ)) (o : Option Entry) → rows ≡ [] → o ≡ Some (Opened tokens) → ((t : List ℕ) → P (born (record { token = t; parents = []; start = s }))) → (y : Row) → Contains (applied s rows o) y → P y
+opened_last P s rows tokens o none is new y i =
+    let start = λ (t : List ℕ). born (record { token = t; parents = []; start = s }) in
+    let all : applied s rows o ≡ put_rows (map start tokens) [] = ap (applied s rows) is ∙ ap (put_rows (map start tokens)) none in
+    ⊎_elim
+    (λ (j : Contains (map start tokens) y). let u = from_map start y tokens j in subst P (sym u.2) (new u.0))
+    (λ (j : Contains [] y). absurd (in_nil y j))
+    (puts_from (map start tokens) [] y (subst (λ l. Contains l y) all i))
+
+-- ---- the two properties
+
+pub lasting : (e : ℕ) (rows : List Row) (r : Row) (b : Batch) → AreFree rows → AreWithin e rows → Contains rows r → b.through ≤ e → ((x : NewChild) → Contains b.children x → x.start ≤ e) → Lasts (λ y. (y.leased ≡ false) × IsWithin e y) rows r b
+lasting e rows r b free within there low starts = record {
+  old = λ y i. (free y i, within y i);
+  moved = λ fin. let start = (within r there).start in let end = (within r there).end in (free r there, record { start = omega (arith, start); end = omega (arith, end, low) });
+  new = λ x i. let start = starts x i in (refl, record { start = omega arith; end = omega (arith, start) });
+}
+
+pub lasting_first : (e s : ℕ) → s ≤ e → (t : List ℕ) → ((born (record { token = t; parents = []; start = s })).leased ≡ false) × IsWithin e (born (record { token = t; parents = []; start = s }))
+lasting_first e s order t = (refl, record { start = omega arith; end = omega (arith, order) })
+
+-- ---- a try
+
+changed_from : (f : Row → Row) (i : ℕ) (rows : List Row) (y : Row) → Contains (changed_at f i rows) y → Contains rows y ⊎ ((x : Row) × Contains rows x × (y ≡ f x))
+changed_from f i [] y j = absurd (in_nil y j)
+changed_from f zero (a ∷ rows) y j = ⊎_elim (λ (e : y ≡ f a). inr (a, in_head a rows, e)) (λ (k : Contains rows y). inl (in_tail a y rows k)) (in_cons (f a) y rows j)
+changed_from f (suc i) (a ∷ rows) y j =
+    ⊎_elim
+    (λ (e : y ≡ a). inl (subst (λ z. Contains (a ∷ rows) z) (sym e) (in_head a rows)))
+    (λ (k : Contains (changed_at f i rows) y). ⊎_elim (λ (l : Contains rows y). inl (in_tail a y rows l)) (λ (u : (x : Row) × Contains rows x × (y ≡ f x)). inr (u.0, in_tail a u.0 rows u.1, u.2)) (changed_from f i rows y k))
+    (in_cons a y (changed_at f i rows) j)
+
+changed_length : (f : Row → Row) (i : ℕ) (rows : List Row) → length (changed_at f i rows) ≡ length rows
+changed_length f i [] = refl
+changed_length f zero (a ∷ rows) = refl
+changed_length f (suc i) (a ∷ rows) = ap suc (changed_length f i rows)
+
+changed_left : (e i : ℕ) (rows : List Row) → rows_left e (changed_at (given_back true) i rows) ≡ rows_left e rows
+changed_left e i [] = refl
+changed_left e zero (a ∷ rows) = refl
+changed_left e (suc i) (a ∷ rows) = ap (λ z. row_left e a + z) (changed_left e i rows)
+
+there_left : (e : ℕ) (place : Option ℕ) (rows : List Row) → left_of e (changed_there (given_back true) place rows) ≡ left_of e rows
+there_left e None rows = refl
+there_left e (Some i) rows = ap (λ z. (65536 - z) * row_most e + rows_left e (changed_at (given_back true) i rows)) (changed_length (given_back true) i rows) ∙ ap (λ z. (65536 - length rows) * row_most e + z) (changed_left e i rows)
+
+there_last : (e : ℕ) (place : Option ℕ) (rows : List Row) → ((y : Row) → Contains rows y → (y.leased ≡ false) × IsWithin e y) → (y : Row) → Contains (changed_there (given_back true) place rows) y → (y.leased ≡ false) × IsWithin e y
+there_last e None rows h y i = h y i
+there_last e (Some k) rows h y i =
+    ⊎_elim
+    (λ (j : Contains rows y). h y j)
+    (λ (u : (x : Row) × Contains rows x × (y ≡ given_back true x)). let old = h u.0 u.1 in subst (λ (z : Row). (z.leased ≡ false) × IsWithin e z) (sym u.2) (refl, record { start = old.1.start; end = old.1.end }))
+    (changed_from (given_back true) k rows y i)
+
+-- a try is of the row at a place, or of none
+pub tried_is : (rows : List Row) (token : Option (List ℕ)) (caught_up : Bool) → (place : Option ℕ) × (tried rows token caught_up ≡ changed_there (given_back true) place rows)
+tried_is rows None caught_up = (None, refl)
+tried_is rows (Some t) true = (place_of rows t, refl)
+tried_is rows (Some t) false = (None, refl)
+
+pub tried_left : (e : ℕ) (rows : List Row) (token : Option (List ℕ)) (caught_up : Bool) → left_of e (tried rows token caught_up) ≡ left_of e rows
+tried_left e rows token caught_up = let u = tried_is rows token caught_up in ap (left_of e) u.1 ∙ there_left e u.0 rows
+
+pub tried_last : (e : ℕ) (rows : List Row) (token : Option (List ℕ)) (caught_up : Bool) → ((y : Row) → Contains rows y → (y.leased ≡ false) × IsWithin e y) → (y : Row) → Contains (tried rows token caught_up) y → (y.leased ≡ false) × IsWithin e y
+tried_last e rows token caught_up h y i = let u = tried_is rows token caught_up in there_last e u.0 rows h y (subst (λ l. Contains l y) u.1 i)
+
+there_from : (place : Option ℕ) (rows : List Row) (y : Row) → Contains (changed_there (given_back true) place rows) y → (z : Row) × Contains rows z × (fresh y ≡ fresh z)
+there_from None rows y i = (y, i, refl)
+there_from (Some k) rows y i = ⊎_elim (λ (j : Contains rows y). (y, j, refl)) (λ (u : (x : Row) × Contains rows x × (y ≡ given_back true x)). (u.0, u.1, ap fresh u.2)) (changed_from (given_back true) k rows y i)
+
+-- each row is one of those before the try, but for what is no entry's
+pub tried_from : (rows : List Row) (token : Option (List ℕ)) (caught_up : Bool) (y : Row) → Contains (tried rows token caught_up) y → (z : Row) × Contains rows z × (fresh y ≡ fresh z)
+tried_from rows token caught_up y i = let u = tried_is rows token caught_up in there_from u.0 rows y (subst (λ l. Contains l y) u.1 i)

@@ -1,0 +1,10 @@
+pub mod Cause
+pub mod Complete
+pub mod Due
+pub mod Ended
+pub mod Format
+pub mod Lease
+pub mod Left
+pub mod Own
+pub mod Taking
+pub mod Turn
