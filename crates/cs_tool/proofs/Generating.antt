@@ -1,5 +1,5 @@
 -- Why no summary of a generated script was made.
-use Rattle.std.proofs.Common.{◌≡◌, ℕ, List, Some, Result, Ok, Err, IfErr, subst, arith}
+use Rattle.std.proofs.Common.{◌≡◌, ℕ, List, Some, Result, Ok, Err, IfOk, IfErr, IfSome, subst, arith}
 use Rattle.cs_generator.specs.Generated.{script_text}
 use Rattle.cs_types.specs.declared.names.Window.{Window}
 use Rattle.cs_schema.specs.declared.types.Stream.{Stream}
@@ -29,6 +29,10 @@ not_loaded commits text e Memory h = tt
 pub none_made : {A : Type 0} → (commits : ℕ) (text : List ℕ) → text ≡ script_text commits → (r : Result A Status) → IfErr r (IsLoadStatus (Some text) 0 0) → IfErr r (IsGenStatus commits)
 none_made commits text e (Ok a) h = tt
 none_made commits text e (Err status) h = not_loaded commits text e status h
+
+pub all_made : (commits : ℕ) (text : List ℕ) → text ≡ script_text commits → (r : Result Database Status) → IfOk r (λ db. IfSome (Some text) (λ bytes. Makes bytes (Ok db))) → IfOk r (λ db. Makes (script_text commits) (Ok db))
+all_made commits text e (Ok db) h = subst (λ (bytes : List ℕ). Makes bytes (Ok db)) e h
+all_made commits text e (Err status) h = tt
 
 pub none_audited : (commits : ℕ) (db : Database) (s : Stream) (w : Window) → Makes (script_text commits) (Ok db) → w ≡ generated_window → (status : Status) → IsAuditFault db w s status → IsGenStatus commits status
 none_audited commits db s w made same Ended h = h
