@@ -4,6 +4,7 @@ import random
 
 DAY = "2024-05-01T"
 SECONDS = 80000
+PARTS = 65536
 TABLE = "CREATE TABLE T (K INT64 NOT NULL, A INT64, B STRING(MAX)) PRIMARY KEY (K)"
 
 
@@ -110,6 +111,19 @@ def reshapes(count):
         yield commit(spread(k, count), f"t{k}", insert(pick.randrange(2 ** 60), k))
 
 
+def many_parts(count):
+    """As many partitions as a stream may have, the ended ones counted, and commits behind them."""
+    yield PREAMBLE
+    ranges = [(0, 2 ** 60)]
+    for k in range(PARTS // 64 - 1):
+        low, width = ranges[k][0], ranges[k][1] // 64
+        ranges += [(low + width * it, width) for it in range(64)]
+        borders = [{"key": {"K": str(low + width * it)}, "table": "T"} for it in range(1, 64)]
+        yield line(1 + k, reshape={"borders": borders, "parts": [f"S-{k:05}"], "stream": "S"})
+    for k in range(count):
+        yield commit(spread(k, count), f"t{k}", insert((k * 7919 * 2 ** 40 + k) % 2 ** 60, k))
+
+
 # the row's name, the script, and its sizes; the main one comes first
 SCRIPTS = [
     ("replay", replay, None),
@@ -119,4 +133,5 @@ SCRIPTS = [
     ("tables", many_tables, (5000, 40000)),
     ("streams", many_streams, (25000, 200000)),
     ("reshapes", reshapes, (3750, 30000)),
+    ("65,473 parts", many_parts, (25000, 200000)),
 ]

@@ -242,3 +242,28 @@ def check(note, room, is_explained, rounds, seed):
     for number in range(rounds):
         check_round(note, asked, f"{seed}.{number}")
     room.clear()
+
+
+def count_of(script, now, query):
+    """How many steps the model answers, as a line; None where the query is none."""
+    own = model.show(script, now, query)
+    if own.status == 0:
+        return str(own.console.count("\n") - 1)
+    return "refused" if own.status in (20, 21) else None
+
+
+def check_links(note, measure, room, rounds, seed):
+    """READs that follow each other over one link, which keeps the index of a stream from one to the next."""
+    seed = seed or str(int(time.time()))
+    print(f"random READs over one link: {rounds} scripts from the seed {seed}", flush=True)
+    for number in range(rounds):
+        made = Round(f"{seed}.{number}")
+        script, now = made.script(), write_stamp(max(made.maker.at, 1))
+        queries = [query.replace("\n", " ") for _, query in made.reads]
+        told = [(query, count) for query in queries if (count := count_of(script, now, query)) is not None]
+        words = [room.put("script", script), now, room.put("queries", "".join(query + "\n" for query, _ in told).encode()), "1000000"]
+        ran = measure(["reads", *words])
+        lines = ran.stdout.decode().splitlines()
+        wrong = [it for it in zip(told, lines) if it[0][1] != it[1]]
+        note(ran.returncode == 0 and len(lines) == len(told) and not wrong, f"seed {seed}.{number}, READs over one link", f"{len(told)} READs, {len(lines)} lines, {wrong[:1]}: {script!r}")
+    room.clear()

@@ -5,6 +5,7 @@
 mod audits;
 mod commits;
 mod loads;
+mod reads;
 mod records;
 mod stories;
 mod tables;
@@ -20,6 +21,7 @@ const HELP: &str = "usage:
   audit N          audits the output of N commits
   fill             fills a history to its limit
   load FILE        loads a script
+  reads FILE MOMENT QUERIES N  loads a script, and counts the steps of each query of a file, up to N
 and of each line of a file
   lines FILE       reads a record, and writes it back
   changes FILE     reads a record, and writes the changes that it tells
@@ -59,6 +61,17 @@ fn answer_of(rt: &HostRuntime, words: &[String]) -> Result<String, Trouble> {
             let story = content(rt, story.as_str())?;
             let output = content(rt, output.as_str())?;
             stories::verdict(rt.alloc(), story.as_str(), output.as_str())
+        }
+        [command, script, moment, queries, page] if command.as_str() == "reads" => {
+            let state = loads::state_of(rt, script.as_str())?;
+            let queries = content(rt, queries.as_str())?;
+            reads::answers(
+                rt.alloc(),
+                &state,
+                moment.as_str(),
+                queries.as_str(),
+                page.as_str(),
+            )
         }
         _ => Err(Trouble::Words),
     }

@@ -1,5 +1,7 @@
 //! Why there is no answer.
 
+use cs_ddl::SyntaxFault;
+use cs_link::LinkAnswer;
 use cs_output::TextFault;
 use cs_schema::SchemaFault;
 use cs_txn::TxnFault;
@@ -26,6 +28,8 @@ pub enum Trouble {
     Limit,
     /// A script is refused.
     Script,
+    /// A query is refused.
+    Query,
     /// Two changes cannot be told apart.
     Changes,
     /// An output is not read back, or is not found to be complete.
@@ -45,6 +49,7 @@ impl fmt::Display for Trouble {
             Trouble::Transaction => "a transaction is refused",
             Trouble::Limit => "a transaction that is too large is not refused as such",
             Trouble::Script => "a script is refused",
+            Trouble::Query => "a query is refused",
             Trouble::Changes => "two changes cannot be told apart",
             Trouble::Output => "the output is not read back, or is not found to be complete",
             Trouble::Memory => "memory was wanting",
@@ -97,6 +102,24 @@ impl From<TxnFault> for Trouble {
         match fault {
             TxnFault::Memory => Trouble::Memory,
             _ => Trouble::Transaction,
+        }
+    }
+}
+
+impl From<SyntaxFault> for Trouble {
+    fn from(fault: SyntaxFault) -> Trouble {
+        match fault {
+            SyntaxFault::Memory => Trouble::Memory,
+            _ => Trouble::Query,
+        }
+    }
+}
+
+impl From<LinkAnswer> for Trouble {
+    fn from(answer: LinkAnswer) -> Trouble {
+        match answer {
+            LinkAnswer::Memory => Trouble::Memory,
+            _ => Trouble::Query,
         }
     }
 }
