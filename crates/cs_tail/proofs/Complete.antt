@@ -1,5 +1,5 @@
--- Over an honest link that is past the window's end, a follower stops for little else than the end.
-use Rattle.std.proofs.Common.{◌≡◌, ◌≢◌, ◌⊎◌, ℕ, ◌≤◌, true, false, List, [], ◌∷◌, Option, Some, None, Ok, Err, ⊎_elim, inl, inr, sym, refl, ap, ◌∙◌, subst, arith, true≢false, Contains, bytes_eq, append-nil}
+-- Why a follower stops over an honest link; past the window's end it does so for little else than the end.
+use Rattle.std.proofs.Common.{◌≡◌, ◌≢◌, ◌⊎◌, ℕ, ◌<◌, ◌≤◌, true, false, List, [], ◌∷◌, Option, Some, None, Ok, Err, ⊎_elim, inl, inr, sym, refl, ap, ◌∙◌, subst, arith, true≢false, Contains, bytes_eq, append-nil}
 use Rattle.std.proofs.lemmas.Bool.{cases_Bool}
 use Rattle.cs_types.specs.declared.names.Window.{Window}
 use Rattle.cs_types.specs.Stamp.{IsStamp}
@@ -33,13 +33,14 @@ use Rattle.cs_tail.specs.declared.outcome.Outcome.{Outcome}
 use Rattle.cs_tail.specs.Cause.{HasCaughtUp, IsRefused, IsBroken, IsRejected, IsOrphanBreach, HasCause}
 use Rattle.cs_tail.specs.Complete.{CanEnd, OnlyEnds}
 use Rattle.cs_tail.specs.Own.{AreFollowing}
+use Rattle.cs_tail.specs.Rightly.{MayBeRefused, IsRefusedRightly, StopsRightly}
 use Rattle.cs_tail.proofs.Ending.{found}
 use Rattle.cs_tail.proofs.Honest.{judge_faithful, first_faithful}
 use Rattle.cs_tail.proofs.Rows.{row_at}
 use Rattle.cs_tail.specs.Due.{AreFree, IsLeaseOf, IsOrphan}
 use Rattle.std.specs.Option.{unwrap_or}
 use Rattle.cs_tail.proofs.Tools.{in_nil, in_head, in_tail, in_cons, in_map, bytes_same, bytes_itself}
-use Rattle.cs_tail.proofs.Refusals.{IsTimely, not_refused, lease_timely, lease_fits, within_limit}
+use Rattle.cs_tail.proofs.Refusals.{IsTimely, refused_rightly, lease_timely, lease_fits, within_limit}
 use Rattle.cs_tail.proofs.Waiting.{waits_for}
 use Rattle.cs_tail.proofs.Work.{lease_end}
 
@@ -65,9 +66,9 @@ module _ (f : Feed) (w : Window) (told : Option Feed) (now : Option (Option Read
       let honest : IsHonestRead H.feed w.stream (Some read) = subst (IsHonestRead H.feed w.stream) it H.honest in
       subst (λ (g : Feed). IsHonest g read) same (honest stream)
 
-  -- none catches up before the end
-  pub never_caught_up : (limits : Limits) (since : ℕ) (x : Option Read) → w.end ≤ since → HasCaughtUp w limits since (Some x) now → ⊥
-  never_caught_up limits since x late C =
+  -- one that caught up was opened before the end
+  pub caught_up_before : (limits : Limits) (since : ℕ) (x : Option Read) → HasCaughtUp w limits since (Some x) now → since < w.end
+  caught_up_before limits since x C =
       let read = C.made.told.0 in
       let given : HasGiven C.lease.args since C.made.steps read = C.made.told.2 in
       let asked : read.args ≡ C.lease.args = given.asked in
@@ -79,11 +80,11 @@ module _ (f : Feed) (w : Window) (told : Option Feed) (now : Option (Option Read
       at_end : (args : ReadArgs) → args.end ≡ Some w.end → end_of args ≡ w.end
       at_end args h = ap (λ o. unwrap_or o 253402300799999999) h
 
-      by : (read : Read) → IsHonest f read → end_of read.args ≡ w.end → since ≤ read.moment → outcome_of read.args C.lease.known limits read.steps ≡ Gives C.batch → (token : Option (List ℕ)) → read.args.token ≡ token → (u : Unit {0}) × (read.opened ≡ Ok u) → ⊥
+      by : (read : Read) → IsHonest f read → end_of read.args ≡ w.end → since ≤ read.moment → outcome_of read.args C.lease.known limits read.steps ≡ Gives C.batch → (token : Option (List ℕ)) → read.args.token ≡ token → (u : Unit {0}) × (read.opened ≡ Ok u) → since < w.end
       by read honest ends timely gives None is taken =
           let steps : HasHonestSteps f read None = subst (HasHonestSteps f read) is honest.steps in
           let u = found read.args C.lease.known limits (MayFollowFirst f read.args.start) C.moment C.batch C.ending [] none_counted read.steps steps gives in
-          u.1.1
+          absurd u.1.1
       by read honest ends timely gives (Some t) is taken =
           let steps : HasHonestSteps f read (Some t) = subst (HasHonestSteps f read) is honest.steps in
           let answer : (refusal : ReadRefusal) → IsRefusedBy f read.args read.moment refusal → ⊥ = subst (IsHonestAnswer f read.args read.moment) taken.1 honest.answer in
@@ -92,8 +93,8 @@ module _ (f : Feed) (w : Window) (told : Option Feed) (now : Option (Option Read
           let u = found read.args C.lease.known limits (MayFollow f p.0 read.args.start (end_of read.args) read.moment) C.moment C.batch C.ending [] none_counted read.steps (steps p.0 p.1 p.2) gives in
           let caught : MayCatchUp f p.0 read.args.start (end_of read.args) read.moment u.0 C.moment = u.1.1 in
           let m = caught.moment in
-          omega (arith, m.0, m.1, ends, timely, late))
-          (λ (none : (p : Part) → Contains f.parts p → p.token ≢ t). answer ReadRefusal.UnknownToken (t, is, none))
+          omega (arith, m.0, m.1, ends, timely))
+          (λ (none : (p : Part) → Contains f.parts p → p.token ≢ t). absurd (answer ReadRefusal.UnknownToken (t, is, none)))
           (find_part t f.parts)
 
 -- ---- what an honest link never does
@@ -105,7 +106,7 @@ never_judged rows r x breach at none h = by (judge rows r x) none (ap (λ z. pla
     by None q k = absurd cc
     by (Some other) q k = absurd cc
 
-module _ (f : Feed) (w : Window) (limits : Limits) (since : ℕ) (told told_now : Option Feed) (before now : Option (Option Read)) (es : List Entry) (b : Shown) (E : CanEnd f w since told before now) (H : IsHonestFor w.stream told_now now) (same : H.feed ≡ f) (is_window : b.window ≡ w) (of : IsBoardOf es b) (A : AreFollowing f w es) (range : IsStamp w.end) where
+module _ (f : Feed) (w : Window) (limits : Limits) (since : ℕ) (told told_now : Option Feed) (before now : Option (Option Read)) (es : List Entry) (b : Shown) (F : IsFollowed f w) (E : IsHonestFor w.stream told before) (H : IsHonestFor w.stream told_now now) (same : H.feed ≡ f) (is_window : b.window ≡ w) (of : IsBoardOf es b) (A : AreFollowing f w es) (range : IsStamp w.end) where
   all : List Row
   all = rows_of w.start es
 
@@ -117,33 +118,31 @@ module _ (f : Feed) (w : Window) (limits : Limits) (since : ℕ) (told told_now 
   unfolding all
   inside r i = subst (λ (v : Window). Contains (rows_of v.start es) (fresh r)) is_window ((of.rows (fresh r)).0 (in_map fresh r b.rows i))
 
-  there : before ≡ Some E.honest.read
-  there = E.honest.presents
+  there : before ≡ Some E.read
+  there = E.presents
 
   timely : (lease : Lease) → IsLeaseOf w b.rows lease → IsTimely f w lease.args
-  timely lease l = lease_timely f w E.followed b.rows all (changes es) right inside lease l
+  timely lease l = lease_timely f w F b.rows all (changes es) right inside lease l
 
-  refused_never : (refusal : ReadRefusal) → IsRefused w limits since before now b.rows refusal → ⊥
-  refused_never refusal h =
+  refused_by : (refusal : ReadRefusal) → IsRefused w limits since before now b.rows refusal → IsRefusedRightly f w now refusal
+  refused_by refusal h =
       let lease = h.0 in
       let p = subst (λ z. Presents z now (WasRefused lease.args refusal)) there h.2 in
       let read = p.0 in
       let asked : read.args ≡ lease.args = p.2.asked in
       let honest : IsHonest f read = present_honest f w told_now now H same read p.1 (ap (λ (a : ReadArgs). a.stream) asked ∙ (lease_end w b.rows lease h.1).2) in
       let answer : IsRefusedBy f read.args read.moment refusal = subst (IsHonestAnswer f read.args read.moment) p.2.refused honest.answer in
-      let late = E.moment in
-      let time = E.timely read p.1 in
-      not_refused f w E.followed lease.args (timely lease h.1) read.moment (omega (arith, late, time)) (E.kept read p.1) refusal (subst (λ a. IsRefusedBy f a read.moment refusal) asked answer)
+      (read, p.1, refused_rightly f w F lease.args (timely lease h.1) read.moment refusal (subst (λ a. IsRefusedBy f a read.moment refusal) asked answer))
 
   module _ (faithful : MadeIsFaithful) where
     made_never : (lease : Lease) (outcome : ReadOutcome) → IsLeaseOf w b.rows lease → IsMade lease.args lease.known limits since before now outcome → (g : Feed) × IsFaithfulOutcome g (end_of lease.args) lease.known outcome
     made_never lease outcome l M =
         let stream : w.stream ≡ lease.args.stream = sym (lease_end w b.rows lease l).2 in
-        let was : IsHonestFor lease.args.stream told before = subst (λ z. IsHonestFor z told before) stream E.honest in
+        let was : IsHonestFor lease.args.stream told before = subst (λ z. IsHonestFor z told before) stream E in
         let is : IsHonestFor lease.args.stream told_now now = subst (λ z. IsHonestFor z told_now now) stream H in
         let time = (timely lease l).late in
         let top = range.1 in
-        (is.feed, faithful lease.args before now told told_now was is lease.known limits since outcome M (omega (arith, time, top)) (lease_fits f w E.followed b.rows all (changes es) right inside lease l))
+        (is.feed, faithful lease.args before now told told_now was is lease.known limits since outcome M (omega (arith, time, top)) (lease_fits f w F b.rows all (changes es) right inside lease l))
 
     line_never : (lease : Lease) → IsLeaseOf w b.rows lease → (breach : Breach) → IsBadLine lease.args lease.known limits since before now breach → ⊥
     line_never lease l (Breach.StampFell x y) h = h
@@ -181,7 +180,7 @@ module _ (f : Feed) (w : Window) (limits : Limits) (since : ℕ) (told told_now 
       known r i = right.known (fresh r) (inside r i)
 
       within : (lease : Lease) → IsLeaseOf w b.rows lease → LeaseIsWithin lease.args lease.known
-      within lease (inl h) = let order = E.followed.in_order in subst (λ (l : Lease). LeaseIsWithin l.args l.known) (sym h.1) (record { low = omega (arith, order); first = λ none. order })
+      within lease (inl h) = let order = F.in_order in subst (λ (l : Lease). LeaseIsWithin l.args l.known) (sym h.1) (record { low = omega (arith, order); first = λ none. order })
       within lease (inr h) =
           let r = fresh h.0 in
           let k = known h.0 h.1.there in
@@ -196,11 +195,11 @@ module _ (f : Feed) (w : Window) (limits : Limits) (since : ℕ) (told told_now 
           let made = R.2.1 in
           let W : IsWellFormed lease.args lease.known x = subst (IfGives (IsWellFormed lease.args lease.known)) made.comes (well lease.args lease.known limits made.steps (within lease R.1)) in
           let stream : w.stream ≡ lease.args.stream = sym (lease_end w b.rows lease R.1).2 in
-          let was : IsHonestFor lease.args.stream told before = subst (λ z. IsHonestFor z told before) stream E.honest in
+          let was : IsHonestFor lease.args.stream told before = subst (λ z. IsHonestFor z told before) stream E in
           let is : IsHonestFor lease.args.stream told_now now = subst (λ z. IsHonestFor z told_now now) stream H in
           let time = (timely lease R.1).late in
           let top = range.1 in
-          let faithful_is : IsFaithful is.feed (end_of lease.args) lease.known x = faithful lease.args before now told told_now was is lease.known limits since (Gives x) made (omega (arith, time, top)) (lease_fits f w E.followed b.rows all (changes es) right inside lease R.1) in
+          let faithful_is : IsFaithful is.feed (end_of lease.args) lease.known x = faithful lease.args before now told told_now was is lease.known limits since (Gives x) made (omega (arith, time, top)) (lease_fits f w F b.rows all (changes es) right inside lease R.1) in
           let feeds : is.feed ≡ f = one_feed is.feed H.feed told_now is.tells H.tells ∙ same in
           by R.1 x W (subst (λ g. IsFaithful g (end_of lease.args) lease.known x) feeds faithful_is) R.2.2 lease (lease_end w b.rows lease R.1).1
         where
@@ -208,20 +207,20 @@ module _ (f : Feed) (w : Window) (limits : Limits) (since : ℕ) (told told_now 
           one_feed g h o p q = let e : Some g ≡ Some h = sym p ∙ q in cc
 
           by : {lease : Lease} → IsLeaseOf w b.rows lease → (x : Batch) → IsWellFormed lease.args lease.known x → IsFaithful f (end_of lease.args) lease.known x → PlansOf b.rows x x.token (Err (faults.Breach breach)) → (l : Lease) → end_of lease.args ≡ w.end → ⊥
-          by {lease} (inl h) x W F plans l ends =
+          by {lease} (inl h) x W Q plans l ends =
               let none : x.token ≡ None = W.token ∙ ap (λ (z : Lease). z.args.token) h.1 in
-              let first : IsFaithfulFirst f x = subst (IsFaithfulOf f (end_of lease.args) lease.known x) none F in
+              let first : IsFaithfulFirst f x = subst (IsFaithfulOf f (end_of lease.args) lease.known x) none Q in
               let many : too_many b.rows x.children ≡ Some breach = subst (λ t. PlansOf b.rows x t (Err (faults.Breach breach))) none plans in
-              let few = first_faithful f w E.followed b.rows ordered known h.0 x first in
+              let few = first_faithful f w F b.rows ordered known h.0 x first in
               let e : None ≡ Some breach = sym few ∙ many in
               absurd cc
-          by {lease} (inr h) x W F plans l ends =
+          by {lease} (inr h) x W Q plans l ends =
               let r = h.0 in
               let token : x.token ≡ Some r.token = W.token ∙ ap (λ (z : Lease). z.args.token) h.2 in
-              let G : IsFaithfulOf f (end_of lease.args) lease.known x (Some r.token) = subst (IsFaithfulOf f (end_of lease.args) lease.known x) token F in
+              let G : IsFaithfulOf f (end_of lease.args) lease.known x (Some r.token) = subst (IsFaithfulOf f (end_of lease.args) lease.known x) token Q in
               let knows : lease.known ≡ known_by r = ap (λ (z : Lease). z.known) h.2 in
               let part : IsFaithfulPart f w.end (known_by r) G.0 x = subst (λ k. IsFaithfulPart f w.end k G.0 x) knows (subst (λ n. IsFaithfulPart f n lease.known G.0 x) ends G.3) in
-              let judged = judge_faithful f w E.followed b.rows ordered known r h.1.there G.0 G.1 (sym G.2) x part (A.own (fresh r) (inside r h.1.there)) in
+              let judged = judge_faithful f w F b.rows ordered known r h.1.there G.0 G.1 (sym G.2) x part (A.own (fresh r) (inside r h.1.there)) in
               let plan : planned b.rows r.token x ≡ Err breach = subst (λ t. PlansOf b.rows x t (Err (faults.Breach breach))) token plans in
               never_judged b.rows r x breach (row_at b.rows r.token r ordered h.1.there refl) judged plan
 
@@ -229,7 +228,7 @@ module _ (f : Feed) (w : Window) (limits : Limits) (since : ℕ) (told told_now 
       waits_never : (row parent : List ℕ) → IsOrphan b.rows row parent → ⊥
       waits_never row parent O =
           let u = waits_for b.rows O.waiting O.first in
-          let done = orphan f es b (subst (IsFollowed f) (sym is_window) E.followed) of (subst (λ v. IsConsistent f v es) (sym is_window) A.consistent) ordered free O.none O.waiting u.0 in
+          let done = orphan f es b (subst (IsFollowed f) (sym is_window) F) of (subst (λ v. IsConsistent f v es) (sym is_window) A.consistent) ordered free O.none O.waiting u.0 in
           true≢false (sym done ∙ u.1)
 
       orphan_never : (breach : Breach) → IsOrphanBreach b.rows breach → ⊥
@@ -251,13 +250,41 @@ module _ (f : Feed) (w : Window) (limits : Limits) (since : ℕ) (told told_now 
       orphan_never (Breach.TooManyRows x y) h = h
       orphan_never (Breach.TooManyChildren x y) h = h
 
-      pub cause_ends : (n count count_now : ℕ) (rose : Type 0) (o : Outcome) → HasCause w limits since before now n count count_now rose b.rows o → OnlyEnds rose o
-      cause_ends n count count_now rose Outcome.Ended h = tt
-      cause_ends n count count_now rose Outcome.Paused h = never_caught_up f w told_now now H same limits since E.honest.read E.moment (subst (λ z. HasCaughtUp w limits since z now) there h.1)
-      cause_ends n count count_now rose (Outcome.RetentionPassed earliest) h = refused_never (ReadRefusal.StartTooOld earliest) h
-      cause_ends n count count_now rose (Outcome.Refused refusal) h = refused_never refusal h.1
-      cause_ends n count count_now rose Outcome.LinkFault h = h
-      cause_ends n count count_now rose (Outcome.Breach breach) (inl h) = broken_never breach h
-      cause_ends n count count_now rose (Outcome.Breach breach) (inr (inl h)) = rejected_never well ordered breach h
-      cause_ends n count count_now rose (Outcome.Breach breach) (inr (inr h)) = orphan_never breach h
-      cause_ends n count count_now rose (Outcome.Stalled token k) h = (made_never h.0 Stalls h.1 h.4).1
+      pub stops_rightly : (n count count_now : ℕ) (rose : Type 0) (o : Outcome) → HasCause w limits since before now n count count_now rose b.rows o → StopsRightly f w since now rose o
+      stops_rightly n count count_now rose Outcome.Ended h = tt
+      stops_rightly n count count_now rose Outcome.Paused h = caught_up_before f w told_now now H same limits since E.read (subst (λ z. HasCaughtUp w limits since z now) there h.1)
+      stops_rightly n count count_now rose (Outcome.RetentionPassed earliest) h = refused_by (ReadRefusal.StartTooOld earliest) h
+      stops_rightly n count count_now rose (Outcome.Refused refusal) h = (h.0, refused_by refusal h.1)
+      stops_rightly n count count_now rose Outcome.LinkFault h = h
+      stops_rightly n count count_now rose (Outcome.Breach breach) (inl h) = broken_never breach h
+      stops_rightly n count count_now rose (Outcome.Breach breach) (inr (inl h)) = rejected_never well ordered breach h
+      stops_rightly n count count_now rose (Outcome.Breach breach) (inr (inr h)) = orphan_never breach h
+      stops_rightly n count count_now rose (Outcome.Stalled token k) h = (made_never h.0 Stalls h.1 h.4).1
+
+-- ---- past the window's end
+
+module _ (f : Feed) (w : Window) (since : ℕ) (told : Option Feed) (before now : Option (Option Read)) (E : CanEnd f w since told before now) where
+  never_refused : (refusal : ReadRefusal) (read : Read) → now ≡ Some (Some read) → MayBeRefused f w read.moment refusal → ⊥
+  never_refused ReadRefusal.UnknownFunction read is h = h
+  never_refused (ReadRefusal.ArgumentType name) read is h = h
+  never_refused (ReadRefusal.ArgumentMissing name) read is h = h
+  never_refused ReadRefusal.ReadOptions read is h = h
+  never_refused ReadRefusal.Heartbeat read is h = h
+  never_refused ReadRefusal.EndBeforeStart read is h = h
+  never_refused ReadRefusal.StartBeforeCreation read is h = h
+  never_refused (ReadRefusal.StartTooOld earliest) read is h = let kept = E.kept read is in omega (arith, h.0, h.1, kept)
+  never_refused (ReadRefusal.StartInFuture at) read is h = let late = E.moment in let time = E.timely read is in omega (arith, h.0, h.1, late, time)
+  never_refused ReadRefusal.UnknownToken read is h = h
+  never_refused (ReadRefusal.StartBeforePartition from) read is h = h
+  never_refused (ReadRefusal.StartPastPartition until) read is h = h
+  never_refused (ReadRefusal.Syntax place) read is h = h
+  never_refused (ReadRefusal.Wire status) read is h = h
+
+  pub only_ends : (rose : Type 0) (o : Outcome) → StopsRightly f w since now rose o → OnlyEnds rose o
+  only_ends rose Outcome.Ended h = tt
+  only_ends rose Outcome.Paused h = let late = E.moment in omega (arith, h, late)
+  only_ends rose (Outcome.RetentionPassed earliest) h = never_refused (ReadRefusal.StartTooOld earliest) h.0 h.1 h.2
+  only_ends rose (Outcome.Refused refusal) h = never_refused refusal h.1.0 h.1.1 h.1.2
+  only_ends rose Outcome.LinkFault h = h
+  only_ends rose (Outcome.Breach breach) h = h
+  only_ends rose (Outcome.Stalled token count) h = h

@@ -16,6 +16,7 @@ use Rattle.cs_schedule.specs.Consistent.{Pairwise, IsRight}
 use Rattle.cs_schedule.specs.Follows.{IsFollowed}
 use Rattle.cs_tail.specs.declared.lease.Lease.{Lease}
 use Rattle.cs_tail.specs.Due.{IsLeaseOf}
+use Rattle.cs_tail.specs.Rightly.{MayBeRefused}
 use Rattle.cs_tail.specs.Lease.{row_lease, first_lease}
 use Rattle.cs_tail.proofs.Tools.{in_nil, in_cons, lt_false}
 use Rattle.cs_fetch.specs.Laws.{Fits}
@@ -96,32 +97,32 @@ module _ (f : Feed) (w : Window) (followed : IsFollowed f w) where
   first_timely : IsTimely f w (first_lease w).args
   first_timely = record { heartbeat = refl; end = refl; early = omega arith; late = followed.in_order; part = λ t e. absurd cc }
 
-  module _ (args : ReadArgs) (T : IsTimely f w args) (moment : ℕ) (late : w.end ≤ moment) (kept : moment - f.retention_us ≤ w.start) where
-    pub not_refused : (refusal : ReadRefusal) → IsRefusedBy f args moment refusal → ⊥
-    not_refused ReadRefusal.UnknownFunction h = h
-    not_refused (ReadRefusal.ArgumentType name) h = h
-    not_refused (ReadRefusal.ArgumentMissing name) h = h
-    not_refused ReadRefusal.ReadOptions h = h
-    not_refused ReadRefusal.Heartbeat h = let beat = T.heartbeat in ⊎_elim (λ l. omega (arith, beat, l)) (λ l. omega (arith, beat, l)) h
-    not_refused ReadRefusal.EndBeforeStart h = let same : Some h.0 ≡ Some w.end = sym h.1 ∙ T.end in let is : h.0 ≡ w.end = cc in let l = T.late in omega (arith, is, h.2, l)
-    not_refused ReadRefusal.StartBeforeCreation h = let l = T.early in let m = followed.created in omega (arith, h, l, m)
-    not_refused (ReadRefusal.StartTooOld earliest) h = let l = T.early in omega (arith, h.0, h.1, l, kept)
-    not_refused (ReadRefusal.StartInFuture at) h = let l = T.late in omega (arith, h.0, h.1, l, late)
-    not_refused ReadRefusal.UnknownToken h = let u = T.part h.0 h.1 in h.2 u.0 u.1 u.2
-    not_refused (ReadRefusal.StartBeforePartition from) h =
+  module _ (args : ReadArgs) (T : IsTimely f w args) (moment : ℕ) where
+    pub refused_rightly : (refusal : ReadRefusal) → IsRefusedBy f args moment refusal → MayBeRefused f w moment refusal
+    refused_rightly ReadRefusal.UnknownFunction h = h
+    refused_rightly (ReadRefusal.ArgumentType name) h = h
+    refused_rightly (ReadRefusal.ArgumentMissing name) h = h
+    refused_rightly ReadRefusal.ReadOptions h = h
+    refused_rightly ReadRefusal.Heartbeat h = let beat = T.heartbeat in ⊎_elim (λ l. omega (arith, beat, l)) (λ l. omega (arith, beat, l)) h
+    refused_rightly ReadRefusal.EndBeforeStart h = let same : Some h.0 ≡ Some w.end = sym h.1 ∙ T.end in let is : h.0 ≡ w.end = cc in let l = T.late in omega (arith, is, h.2, l)
+    refused_rightly ReadRefusal.StartBeforeCreation h = let l = T.early in let m = followed.created in omega (arith, h, l, m)
+    refused_rightly (ReadRefusal.StartTooOld earliest) h = let l = T.early in (h.0, omega (arith, h.1, l))
+    refused_rightly (ReadRefusal.StartInFuture at) h = let l = T.late in (h.0, omega (arith, h.1, l))
+    refused_rightly ReadRefusal.UnknownToken h = let u = T.part h.0 h.1 in h.2 u.0 u.1 u.2
+    refused_rightly (ReadRefusal.StartBeforePartition from) h =
         let p = h.0 in
         let u = T.part p.token h.1.token in
         let same : u.0 ≡ p = same_part f followed.feed u.0 p u.1 h.1.there u.2 in
         let low : p.from ≤ args.start = subst (λ (z : Part). z.from ≤ args.start) same u.3 in
         omega (arith, h.2, h.3, low)
-    not_refused (ReadRefusal.StartPastPartition until) h =
+    refused_rightly (ReadRefusal.StartPastPartition until) h =
         let p = h.0 in
         let u = T.part p.token h.1.token in
         let same : u.0 ≡ p = same_part f followed.feed u.0 p u.1 h.1.there u.2 in
         let below : args.start < until = subst (IsBefore args.start) h.2 (subst (λ (z : Part). IsBefore args.start z.until) same u.4) in
         omega (arith, below, h.3)
-    not_refused (ReadRefusal.Syntax place) h = h
-    not_refused (ReadRefusal.Wire status) h = h
+    refused_rightly (ReadRefusal.Syntax place) h = h
+    refused_rightly (ReadRefusal.Wire status) h = h
 
   pub lease_timely : (rows all : List Row) (done : List Change) → IsRight f w.start w.end all done → ((r : Row) → Contains rows r → Contains all (fresh r)) → (lease : Lease) → IsLeaseOf w rows lease → IsTimely f w lease.args
   lease_timely rows all done R inside lease (inl h) = subst (λ (l : Lease). IsTimely f w l.args) (sym h.1) first_timely

@@ -6,5 +6,6 @@ pub mod Format
 pub mod Lease
 pub mod Left
 pub mod Own
+pub mod Rightly
 pub mod Taking
 pub mod Turn

@@ -8,6 +8,7 @@ ghost use Rattle.cs_schedule.specs.Follows.{IsFollowed};
 ghost use Rattle.cs_tail.specs.declared.outcome.Outcome.TheVariants as outcomes;
 ghost use Rattle.cs_tail.specs.Complete.{CanEnd, OnlyEnds};
 ghost use Rattle.cs_tail.specs.Own.{AreFollowing};
+ghost use Rattle.cs_tail.specs.Rightly.{StopsRightly};
 ghost use Rattle.cs_tail.specs.Turn.{IsStopped};
 
 use crate::format::window_can_be_written;
@@ -43,6 +44,7 @@ pub fn follow_entries<K: Link>(
     ensures object { K.same link.old link.new }
     ensures stays_honest { (stream : List ℕ) → IsHonestFor stream (K.feed link.old stream) (K.present link.old) → IsHonestFor stream (K.feed link.new stream) (K.present link.new) }
     ensures stays_paced { K.paced link.old → K.paced link.new }
+    ensures rightly { (f : Feed) → IsFollowed f window.now → K.feed link.old window.now.stream ≡ Some f → IsHonestFor window.now.stream (K.feed link.old window.now.stream) (K.present link.old) → IfOk result (λ r. StopsRightly f window.now (K.moment link.old) (K.present link.new) (Rose (K.faults link.old) (K.faults link.new)) r.0) }
     ensures complete { (f : Feed) → CanEnd f window.now (K.moment link.old) (K.feed link.old window.now.stream) (K.present link.old) (K.present link.new) → IfOk result (λ r. OnlyEnds (Rose (K.faults link.old) (K.faults link.new)) r.0) }
 {
     made_is_faithful();

@@ -132,8 +132,5 @@ turns-preserved g c =
       consistent = λ f F t h. consistent_on w (g.K.Link.feed c.args.link.now w.stream) (g.K.Link.feed c.turns.link w.stream) (g.K.Link.present c.args.link.now) (g.K.Link.present c.turns.link) c.turns.entries c.take_turn.new.entries f F t (inv.feed w.stream) (inv.honest w.stream) h (inv.consistent f F t h) turn;
     }
 
-pub returns-in-Stops-clause-stays_honest : goal.returns-in-Stops-clause-stays_honest
-returns-in-Stops-clause-stays_honest g c = λ stream h. c.in_ok-outcome.ensures.stays_honest stream (c.turns.invariant.honest stream h)
-
 pub returns-then-left-le1-clause-stays_honest : goal.returns-then-left-le1-clause-stays_honest
-returns-then-left-le1-clause-stays_honest g c = λ stream h. c.in_ok-outcome.ensures.stays_honest stream (c.turns.invariant.honest stream h)
+returns-then-left-le1-clause-stays_honest g c = λ stream h. c.take_turn.ensures.stays_honest stream (c.turns.invariant.honest stream h)
