@@ -10,10 +10,11 @@ use Rattle.cs_tool.specs.Answers.{IsLoadStatus, IsBadText}
 use Rattle.cs_tool.specs.Database.{IsBadScript, wanted_in}
 use Rattle.cs_tool.specs.Gen.{IsGenStatus, IsAuditFault, generated_window}
 use Rattle.cs_tool.specs.declared.status.Status.{Status}
-use Rattle.cs_tool.specs.declared.status.Status.TheVariants.{Ended, Verdict, RetentionPassed, Refused, OutputFault, SourceFault, ConsoleFault, BadWords, BadScript, OutputNotEmpty, BadOutput, Memory}
+use Rattle.cs_tool.specs.declared.status.Status.TheVariants.{Ended, Paused, Verdict, RetentionPassed, Refused, OutputFault, SourceFault, ConsoleFault, BadWords, BadScript, OutputNotEmpty, BadOutput, Memory}
 
 not_loaded : (commits : ℕ) (text : List ℕ) → text ≡ script_text commits → (status : Status) → IsLoadStatus (Some text) 0 0 status → IsGenStatus commits status
 not_loaded commits text e Ended h = h
+not_loaded commits text e Paused h = absurd h
 not_loaded commits text e (Verdict v) h = h
 not_loaded commits text e (RetentionPassed earliest) h = h
 not_loaded commits text e (Refused refusal) h = absurd h
@@ -36,6 +37,7 @@ all_made commits text e (Err status) h = tt
 
 pub none_audited : (commits : ℕ) (db : Database) (s : Stream) (w : Window) → Makes (script_text commits) (Ok db) → w ≡ generated_window → (status : Status) → IsAuditFault db w s status → IsGenStatus commits status
 none_audited commits db s w made same Ended h = h
+none_audited commits db s w made same Paused h = absurd h
 none_audited commits db s w made same (Verdict v) h = h
 none_audited commits db s w made same (RetentionPassed earliest) h = h
 none_audited commits db s w made same (Refused refusal) h = absurd h

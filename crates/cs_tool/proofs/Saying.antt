@@ -11,12 +11,13 @@ use Rattle.cs_tool.specs.Said.{status_said, text_said, IsWritten, AreStepsOf, Is
 use Rattle.cs_tool.specs.Show.{IsCutOff, shown_text}
 use Rattle.cs_tool.specs.Status.{status_line}
 use Rattle.cs_tool.specs.declared.status.Status.{Status}
-use Rattle.cs_tool.specs.declared.status.Status.TheVariants.{Ended, Verdict, RetentionPassed, Refused, OutputFault, SourceFault, ConsoleFault, BadWords, BadScript, OutputNotEmpty, BadOutput, Memory}
+use Rattle.cs_tool.specs.declared.status.Status.TheVariants.{Ended, Paused, Verdict, RetentionPassed, Refused, OutputFault, SourceFault, ConsoleFault, BadWords, BadScript, OutputNotEmpty, BadOutput, Memory}
 use Rattle.cs_tool.specs.declared.top.Said.{Said}
 use Rattle.cs_tool.specs.declared.top.Said.TheVariants.{Line, Text, Steps}
 
 is_memory : (s : Status) → (s ≡ Memory) ⊎ (s ≢ Memory)
 is_memory Ended = inr (λ h. cc)
+is_memory Paused = inr (λ h. cc)
 is_memory (Verdict v) = inr (λ h. cc)
 is_memory (RetentionPassed earliest) = inr (λ h. cc)
 is_memory (Refused refusal) = inr (λ h. cc)
@@ -45,14 +46,14 @@ cut_off steps u v w cut last = (
 
 -- the steps that a command asks for are said, all of them or the first
 all_said : (source : Option (List ℕ)) (steps : List Step) (command : Command) → AreStepsOf source steps command → SaidAtEnd source (shown_text steps) command
-all_said source steps (Replay script journal output stream start end) are = absurd are
+all_said source steps (Replay script journal output stream start end options) are = absurd are
 all_said source steps (Check script output stream start end) are = absurd are
 all_said None steps (Show script moment query) are = tt
 all_said (Some bytes) steps (Show script moment query) (db, made, are) = (db, made, (are.0, ap shown_text are.1))
 all_said source steps (Gen commits text) are = absurd are
 
 some_said : (source : Option (List ℕ)) (steps : List Step) (text : List ℕ) (command : Command) → IsCutOff steps text → AreStepsOf source steps command → SaidInPart source text command
-some_said source steps text (Replay script journal output stream start end) cut are = absurd are
+some_said source steps text (Replay script journal output stream start end options) cut are = absurd are
 some_said source steps text (Check script output stream start end) cut are = absurd are
 some_said None steps text (Show script moment query) cut are = tt
 some_said (Some bytes) steps text (Show script moment query) cut (db, made, are) = (db, made, (are.0, subst (λ (l : List Step). IsCutOff l text) are.1 cut))

@@ -14,7 +14,7 @@ use Rattle.cs_tool.specs.Said.{status_said, IsShown}
 use Rattle.cs_tool.specs.Show.{IsRead, IsReadTooOld, IsReadRefused, IsShowFault}
 use Rattle.std.specs.Prelude.{IfSome}
 use Rattle.cs_tool.specs.declared.status.Status.{Status}
-use Rattle.cs_tool.specs.declared.status.Status.TheVariants.{Ended, Verdict, RetentionPassed, Refused, OutputFault, SourceFault, ConsoleFault, BadWords, BadScript, OutputNotEmpty, BadOutput, Memory}
+use Rattle.cs_tool.specs.declared.status.Status.TheVariants.{Ended, Paused, Verdict, RetentionPassed, Refused, OutputFault, SourceFault, ConsoleFault, BadWords, BadScript, OutputNotEmpty, BadOutput, Memory}
 use Rattle.cs_tool.specs.declared.top.Said.{Said}
 use Rattle.cs_tool.specs.declared.top.Said.TheVariants.{Line, Text, Steps}
 
@@ -63,6 +63,7 @@ module _ (source : Option (List ℕ)) (before now : ℕ) (query : ReadQuery) (mo
 
   status_answers : (status : Status) → IsShowFault source before now query moment status → IsShowStatus status
   status_answers Ended is = absurd is
+  status_answers Paused is = is
   status_answers (Verdict v) is = is
   status_answers (RetentionPassed earliest) is = tt
   status_answers (Refused refusal) is = tt
@@ -82,6 +83,7 @@ module _ (source : Option (List ℕ)) (before now : ℕ) (query : ReadQuery) (mo
 
   status_next : (status : Status) → IsShowFault source before now query moment status → IsPastScript status → OnScript source (λ db. Unit {0})
   status_next Ended is past = absurd is
+  status_next Paused is past = absurd is
   status_next (Verdict v) is past = absurd is
   status_next (RetentionPassed earliest) is past = map_script source (IsReadTooOld query moment earliest) (λ db. Unit {0}) (λ db h. tt) is
   status_next (Refused refusal) is past = map_script source (IsReadRefused query moment refusal) (λ db. Unit {0}) (λ db h. tt) is

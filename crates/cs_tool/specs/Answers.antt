@@ -5,7 +5,7 @@ use Rattle.cs_types.specs.declared.change.Change.{Change}
 use Rattle.cs_types.specs.declared.names.Window.{Window}
 use Rattle.cs_schema.specs.declared.types.Stream.{Stream}
 use Rattle.cs_device.specs.Causes.{Rose}
-use Rattle.cs_output.specs.Output.{IsComplete, text_of_lines, whole_lines}
+use Rattle.cs_output.specs.Output.{IsGood, IsComplete, text_of_lines, whole_lines}
 use Rattle.cs_output.specs.Reading.{AreLinesOf, IsTextFault}
 use Rattle.cs_output.specs.declared.reading.Line.{Line}
 use Rattle.cs_output.specs.declared.reading.TextFault.TheVariants.{BadLine, NoEnd}
@@ -14,9 +14,9 @@ use Rattle.cs_audit.specs.declared.verdict.Verdict.{Verdict as Judged}
 use Rattle.cs_audit.specs.declared.verdict.Verdict.TheVariants.{Complete}
 use Rattle.cs_link.specs.declared.refusal.ReadRefusal.{ReadRefusal}
 use Rattle.cs_script.specs.Database.{Database}
-use Rattle.cs_tool.specs.Database.{IsStreamIn, HasNoStream, wanted_in, IsWithin, IsRefusedAs, IsPassed, IsBadScript}
+use Rattle.cs_tool.specs.Database.{IsStreamIn, HasNoStream, wanted_in, IsBadScript}
 use Rattle.cs_tool.specs.declared.status.Status.{Status}
-use Rattle.cs_tool.specs.declared.status.Status.TheVariants.{Ended, Verdict, RetentionPassed, Refused, OutputFault, SourceFault, ConsoleFault, BadWords, BadScript, OutputNotEmpty, BadOutput, Memory}
+use Rattle.cs_tool.specs.declared.status.Status.TheVariants.{Ended, Paused, Verdict, RetentionPassed, Refused, OutputFault, SourceFault, ConsoleFault, BadWords, BadScript, OutputNotEmpty, BadOutput, Memory}
 
 -- an object that told its bytes tells them still, and they are so
 abbrev pub OnTold : Option (List ℕ) → Option (List ℕ) → (List ℕ → Type 0) → Type 0
@@ -33,18 +33,17 @@ pub record IsWholeText (wanted : List Change) (end : ℕ) (text : List ℕ) : Ty
   pub exact : text ≡ text_of_lines (whole_lines wanted end)
   pub complete : IsComplete text wanted end
 
--- the text is whole for what the window wants of the database, and the window is within what its stream keeps
-pub record IsTextIn (db : Database) (w : Window) (text : List ℕ) : Type 0 where
-  pub stream : Stream
-  pub there : IsStreamIn db w.stream stream
-  pub within : IsWithin stream w
-  pub whole : IsWholeText (wanted_in db stream w.start w.end) w.end text
-
 -- the text is complete for what the window wants of the database
 pub record IsCompleteIn (db : Database) (w : Window) (text : List ℕ) : Type 0 where
   pub stream : Stream
   pub there : IsStreamIn db w.stream stream
   pub complete : IsComplete text (wanted_in db stream w.start w.end) w.end
+
+-- the text is right as far as it goes for what the window wants of the database
+pub record IsGoodIn (db : Database) (w : Window) (text : List ℕ) : Type 0 where
+  pub stream : Stream
+  pub there : IsStreamIn db w.stream stream
+  pub good : IsGood text (wanted_in db stream w.start w.end) w.end
 
 -- the text has this verdict, which is not that it is complete, against what the window wants of the database
 pub record IsJudgedIn (db : Database) (w : Window) (verdict : Judged) (text : List ℕ) : Type 0 where
@@ -66,13 +65,6 @@ IsLoadStatus source before now (BadScript line cause) = IfSome source (IsBadScri
 IsLoadStatus source before now Memory = ⊤
 IsLoadStatus source before now _ = ⊥
 
--- the window was not read of the database
-abbrev pub IsWindowStatus : Database → Window → Status → Type 0
-IsWindowStatus db w (Refused refusal) = IsRefusedAs db w refusal
-IsWindowStatus db w (RetentionPassed earliest) = IsPassed db w earliest
-IsWindowStatus db w Memory = ⊤
-IsWindowStatus db w _ = ⊥
-
 -- the output was not empty, or its length was not told
 abbrev pub IsLengthStatus : Option (List ℕ) → ℕ → ℕ → Status → Type 0
 IsLengthStatus old before now OutputFault = Rose before now
@@ -90,6 +82,7 @@ IsAuditStatus db w s text _ = ⊥
 -- an answer of a replay
 abbrev pub IsReplayStatus : Status → Type 0
 IsReplayStatus Ended = ⊤
+IsReplayStatus Paused = ⊤
 IsReplayStatus (RetentionPassed earliest) = ⊤
 IsReplayStatus (Refused refusal) = ⊤
 IsReplayStatus OutputFault = ⊤

@@ -24,23 +24,19 @@ HasNoStream db name = (s : Stream) → Contains db.streams s → s.name ≢ name
 abbrev pub wanted_in : Database → Stream → ℕ → ℕ → List Change
 wanted_in db s start end = wanted_changes start end (captured_changes db.tables s db.modifications)
 
--- the window starts neither before the stream's creation nor before what it keeps at the window's end
-pub record IsWithin (s : Stream) (w : Window) : Type 0 where
-  pub created : s.created ≤ w.start
-  pub kept : w.end - s.retention_us ≤ w.start
+-- why a window is refused at a moment: there is no such stream, or its start is before the stream's creation, or it ends after the moment
+abbrev pub IsRefusedAs : Database → Window → ℕ → ReadRefusal → Type 0
+IsRefusedAs db w moment ReadRefusal.UnknownFunction = HasNoStream db w.stream
+IsRefusedAs db w moment ReadRefusal.StartBeforeCreation = (s : Stream) × IsStreamIn db w.stream s × (w.start < s.created)
+IsRefusedAs db w moment (ReadRefusal.StartInFuture at) = (s : Stream) × IsStreamIn db w.stream s × (s.created ≤ w.start) × (at ≡ moment) × (at < w.end)
+IsRefusedAs db w moment _ = ⊥
 
--- why a window is refused: there is no such stream, or its start is before the stream's creation
-abbrev pub IsRefusedAs : Database → Window → ReadRefusal → Type 0
-IsRefusedAs db w ReadRefusal.UnknownFunction = HasNoStream db w.stream
-IsRefusedAs db w ReadRefusal.StartBeforeCreation = (s : Stream) × IsStreamIn db w.stream s × (w.start < s.created)
-IsRefusedAs db w _ = ⊥
-
--- the start is below the earliest moment that the stream keeps at the window's end
-pub record IsPassed (db : Database) (w : Window) (earliest : ℕ) : Type 0 where
+-- the start is below the earliest moment that the stream keeps at a moment
+pub record IsPassed (db : Database) (w : Window) (moment earliest : ℕ) : Type 0 where
   pub stream : Stream
   pub there : IsStreamIn db w.stream stream
   pub created : stream.created ≤ w.start
-  pub earliest_is : earliest ≡ w.end - stream.retention_us
+  pub earliest_is : earliest ≡ moment - stream.retention_us
   pub before : w.start < earliest
 
 -- the bytes of a script are refused: this line is the first bad one, for this cause, or, without a cause, they are too many

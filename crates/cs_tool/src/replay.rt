@@ -1,35 +1,40 @@
 // The replay of a window on an empty output.
-ghost use Rattle.std.specs.Prelude.{◌≡◌, ◌≢◌, ◌≤◌, ◌<◌, ◌-◌, ℕ, List, [], length, IfOk, IfErr, IfSome, OnOk, SomeIff};
+ghost use Rattle.std.specs.Prelude.{◌≡◌, ◌≤◌, ◌<◌, ℕ, [], length, IfErr, IfSome, OnErr, OnOk};
 ghost use Rattle.std.specs.Io.KnownBytes.{Keeps};
 ghost use Rattle.cs_device.specs.Causes.{Rose};
-ghost use Rattle.cs_schema.specs.declared.types.Stream.{Stream as StreamValue};
-ghost use Rattle.cs_tool.specs.Database.{IsStreamIn, IsBadScript, IsRefusedAs, IsPassed, OnScript, wanted_in};
-ghost use Rattle.cs_tool.specs.Answers.{OnTold, KeepsFilled, IsTextIn, IsWindowStatus, IsLengthStatus, IsReplayStatus, IsPastScript};
-ghost use Rattle.cs_tool.specs.Run.{IsBeforeOutput};
+ghost use Rattle.cs_tool.specs.Database.{IsBadScript, IsRefusedAs, IsPassed, OnScript};
+ghost use Rattle.cs_tool.specs.Answers.{OnTold, KeepsFilled, IsCompleteIn, IsGoodIn, IsLengthStatus, IsReplayStatus, IsPastScript};
+ghost use Rattle.cs_tool.specs.Left.{IsLeftAs};
+ghost use Rattle.cs_tool.specs.Run.{IsBeforeOutput, LeavesRefused};
 ghost use Rattle.cs_tool.specs.declared.status.Status.TheVariants as status;
 
 use crate::Status;
-use crate::database::{changes_in, database_of, stream_of};
+use crate::database::database_of;
+use crate::following::{Going, told};
 use cs_device::{Disk, Source};
-use cs_link::ReadRefusal;
-use cs_output::whole_text;
-use cs_schema::Stream;
 use cs_script::ServerState;
-use cs_types::{Stamp, Text, Window};
+use cs_types::{Text, Window};
 use std::alloc::Global;
 
-/// Reads the script, and writes on an empty output the lines of what the window wants of it, and
-/// the watermark of its end.
+/// Reads the script, follows the window over a server of what it makes, and writes on an empty
+/// output what the follower's entries tell: lines of changes and of watermarks.
+#[tactic(auto, using(crate::proofs::Leaving::left_ended, crate::proofs::Leaving::left_paused, crate::proofs::Leaving::left_passed, crate::proofs::Leaving::left_refused))]
 pub(crate) fn replay<S: Source, O: Disk>(
     alloc: Global,
     script: &mut S,
     output: &mut O,
     window: &Window,
+    going: &Going,
 ) -> Status
-    ensures ended { result ≡ status.Ended → OnScript (S.left script.old) (λ db. OnTold (O.seen output.old) (O.seen output.new) (IsTextIn db window.now)) }
+    requires turns { 1 ≤ going.now.pace.turns }
+    requires records { (1 ≤ going.now.pace.limits.records) × (going.now.pace.limits.records ≤ 8192) }
+    requires order { window.now.start ≤ window.now.end }
+    ensures ended { result ≡ status.Ended → OnScript (S.left script.old) (λ db. OnTold (O.seen output.old) (O.seen output.new) (IsCompleteIn db window.now)) }
     ensures empty { result ≡ status.Ended → IfSome (O.seen output.old) (λ bytes. bytes ≡ []) }
-    ensures retention { (earliest : ℕ) → result ≡ status.RetentionPassed earliest → OnScript (S.left script.old) (λ db. IsPassed db window.now earliest) }
-    ensures refused { (refusal : _) → result ≡ status.Refused refusal → OnScript (S.left script.old) (λ db. IsRefusedAs db window.now refusal) }
+    ensures paused { result ≡ status.Paused → OnScript (S.left script.old) (λ db. OnTold (O.seen output.old) (O.seen output.new) (IsGoodIn db window.now) × (going.now.moment < window.now.end)) }
+    ensures paused_empty { result ≡ status.Paused → IfSome (O.seen output.old) (λ bytes. bytes ≡ []) }
+    ensures retention { (earliest : ℕ) → result ≡ status.RetentionPassed earliest → OnScript (S.left script.old) (λ db. IsPassed db window.now going.now.moment earliest × OnTold (O.seen output.old) (O.seen output.new) (IsGoodIn db window.now)) }
+    ensures refused { (refusal : _) → result ≡ status.Refused refusal → OnScript (S.left script.old) (λ db. IsRefusedAs db window.now going.now.moment refusal × LeavesRefused db window.now (O.seen output.old) (O.seen output.new) refusal) }
     ensures output_fault { result ≡ status.OutputFault → Rose (O.faults output.old) (O.faults output.new) }
     ensures source_fault { result ≡ status.SourceFault → Rose (S.faults script.old) (S.faults script.new) }
     ensures bad_script { (line : ℕ) (cause : _) → result ≡ status.BadScript line cause → IfSome (S.left script.old) (IsBadScript line cause) }
@@ -51,10 +56,7 @@ pub(crate) fn replay<S: Source, O: Disk>(
         Ok(()) => (),
         Err(status) => return status,
     }
-    match window_text(alloc, &state, window) {
-        Ok(text) => write_whole(&text, output),
-        Err(status) => status,
-    }
+    write_followed(alloc, &state, output, window, going)
 }
 
 /// That the output has no bytes.
@@ -75,49 +77,47 @@ fn only_empty<O: Disk>(output: &mut O) -> Result<(), Status>
     Ok(())
 }
 
-/// The whole output of a window, where the stream is there and keeps its changes from the start on.
-fn window_text(alloc: Global, state: &ServerState, window: &Window) -> Result<Text, Status>
-    ensures text { IfOk result (IsTextIn state.now window.now) }
-    ensures refused { IfErr result (IsWindowStatus state.now window.now) }
+/// Writes on an empty output what a follower of the window leaves.
+#[tactic(auto, using(crate::proofs::Leaving::left_written, crate::proofs::Leaving::left_unread))]
+fn write_followed<O: Disk>(
+    alloc: Global,
+    state: &ServerState,
+    output: &mut O,
+    window: &Window,
+    going: &Going,
+) -> Status
+    requires turns { 1 ≤ going.now.pace.turns }
+    requires records { (1 ≤ going.now.pace.limits.records) × (going.now.pace.limits.records ≤ 8192) }
+    requires order { window.now.start ≤ window.now.end }
+    requires empty { IfSome (O.seen output.old) (λ bytes. bytes ≡ []) }
+    ensures left { IsLeftAs state.now window.now going.now.moment (O.seen output.old) (O.seen output.new) result }
+    ensures output_fault { result ≡ status.OutputFault → Rose (O.faults output.old) (O.faults output.new) }
+    ensures object { O.same output.old output.new }
+    ensures later { O.faults output.old ≤ O.faults output.new }
 {
-    let Some(stream) = stream_of(state, &window.stream) else {
-        return Err(Status::Refused(ReadRefusal::UnknownFunction));
+    let (text, status) = match told(alloc, state, window, going) {
+        Ok(said) => said,
+        Err(status) => return status,
     };
-    if window.start.us() < stream.created.us() {
-        return Err(Status::Refused(ReadRefusal::StartBeforeCreation));
-    }
-    if let Some(earliest) = earliest_kept(stream, window) {
-        return Err(Status::RetentionPassed(earliest));
-    }
-    let wanted = changes_in(alloc, state, stream, window.start, window.end)?;
-    let text = whole_text(alloc, wanted.as_slice(), window.end)?;
-    Ok(text)
-}
-
-/// The earliest moment that the stream keeps at the window's end, where the start is below it.
-fn earliest_kept(stream: &Stream, window: &Window) -> Option<Stamp>
-    ensures { SomeIff result (window.now.start < window.now.end - stream.now.retention_us) (window.now.end - stream.now.retention_us) }
-{
-    let earliest = window.end.us().saturating_sub(stream.retention_us);
-    if window.start.us() < earliest {
-        return Stamp::of(earliest);
-    }
-    None
+    let Ok(()) = write_whole(&text, output) else {
+        return Status::OutputFault;
+    };
+    status
 }
 
 /// Writes a text on an empty output.
-fn write_whole<O: Disk>(text: &Text, output: &mut O) -> Status
+fn write_whole<O: Disk>(text: &Text, output: &mut O) -> Result<(), Status>
     requires { IfSome (O.seen output.old) (λ bytes. bytes ≡ []) }
-    ensures ended { result ≡ status.Ended → OnTold (O.seen output.old) (O.seen output.new) (λ bytes. bytes ≡ text.now) }
-    ensures output_fault { result ≢ status.Ended → (result ≡ status.OutputFault) × Rose (O.faults output.old) (O.faults output.new) }
+    ensures written { OnOk result (OnTold (O.seen output.old) (O.seen output.new) (λ bytes. bytes ≡ text.now)) }
+    ensures output_fault { OnErr result (Rose (O.faults output.old) (O.faults output.new)) }
     ensures object { O.same output.old output.new }
     ensures later { O.faults output.old ≤ O.faults output.new }
 {
     let Ok(()) = output.write_at(0, text.as_str().as_bytes()) else {
-        return Status::OutputFault;
+        return Err(Status::OutputFault);
     };
     let Ok(()) = output.sync() else {
-        return Status::OutputFault;
+        return Err(Status::OutputFault);
     };
-    Status::Ended
+    Ok(())
 }

@@ -1,5 +1,5 @@
 -- The words of the commands, this project's own.
-use Rattle.std.specs.Prelude.{◌≡◌, ◌≤◌, ℕ, List, [], ◌∷◌, Bool, true, false, codes, slice_get, Some, ⊤}
+use Rattle.std.specs.Prelude.{◌≡◌, ◌≤◌, ℕ, ◌+◌, List, [], ◌∷◌, ◌++◌, Bool, true, false, codes, drop, slice_get, Some, ⊤}
 use Rattle.cs_types.specs.Stamp.{Spells}
 use Rattle.cs_types.specs.declared.names.Window.{Window}
 use Rattle.cs_ddl.specs.declared.tree.ReadQuery.{ReadQuery}
@@ -7,9 +7,11 @@ use Rattle.cs_ddl.specs.Grammars.{queries}
 use Rattle.cs_ddl.specs.Text.{IsTextOf}
 use Rattle.cs_generator.specs.Generated.{IsSize}
 use Rattle.cs_words.specs.Numbers.{is_name, number_reading}
+use Rattle.cs_words.specs.Options.{IsOptions}
 use Rattle.cs_words.specs.Place.{IsFirstWrong}
 use Rattle.cs_words.specs.declared.command.Command.{Command}
 use Rattle.cs_words.specs.declared.command.Command.TheVariants.{Replay, Check, Show, Gen}
+use Rattle.cs_words.specs.declared.command.ReplayOptions.{ReplayOptions}
 use Rattle.cs_words.specs.declared.command.WordsFault.{WordsFault}
 use Rattle.cs_words.specs.declared.command.WordsFault.TheVariants.{At, Memory}
 
@@ -23,11 +25,13 @@ pub record IsWindow (words : List (List ℕ)) (w : Window) : Type 0 where
   pub end_is : Spells end_text w.end
   pub in_order : w.start ≤ w.end
 
--- replay SCRIPT JOURNAL OUTPUT STREAM START END
-pub record IsReplay (words : List (List ℕ)) (script journal output : List ℕ) (w : Window) : Type 0 where
+-- replay SCRIPT JOURNAL OUTPUT STREAM START END, and options behind them
+pub record IsReplay (words : List (List ℕ)) (script journal output : List ℕ) (w : Window) (options : ReplayOptions) : Type 0 where
+  pub next : List (List ℕ)
   pub last : List (List ℕ)
-  pub are : words ≡ codes "replay" ∷ script ∷ journal ∷ output ∷ last
-  pub window : IsWindow last w
+  pub are : words ≡ codes "replay" ∷ script ∷ journal ∷ output ∷ (next ++ last)
+  pub window : IsWindow next w
+  pub options_are : IsOptions w.end last options
 
 -- check SCRIPT OUTPUT STREAM START END
 pub record IsCheck (words : List (List ℕ)) (script output : List ℕ) (w : Window) : Type 0 where
@@ -57,7 +61,7 @@ pub record IsGen (words : List (List ℕ)) (commits : ℕ) (text : Bool) : Type 
 
 -- the words are those of this command
 abbrev pub IsCommand : List (List ℕ) → Command → Type 0
-IsCommand words (Replay script journal output stream start end) = IsReplay words script journal output (record { stream = stream; start = start; end = end })
+IsCommand words (Replay script journal output stream start end options) = IsReplay words script journal output (record { stream = stream; start = start; end = end }) options
 IsCommand words (Check script output stream start end) = IsCheck words script output (record { stream = stream; start = start; end = end })
 IsCommand words (Show script moment query) = IsShow words script moment query
 IsCommand words (Gen commits text) = IsGen words commits text
@@ -77,6 +81,11 @@ IsFaultIn Allowed words Memory = ⊤
 
 abbrev pub IsWordsFault : List (List ℕ) → WordsFault → Type 0
 IsWordsFault words fault = IsFaultIn AreWords words fault
+
+-- the same of the words from a place on
+abbrev pub IsFaultFrom : (List (List ℕ) → Type 0) → List (List ℕ) → ℕ → WordsFault → Type 0
+IsFaultFrom Allowed words from (At place) = (behind : ℕ) × (place ≡ from + behind) × IsFirstWrong Allowed (drop from words) behind
+IsFaultFrom Allowed words from Memory = ⊤
 
 -- some window has these words
 abbrev pub AreWindow : List (List ℕ) → Type 0

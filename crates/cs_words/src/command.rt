@@ -5,7 +5,7 @@ use cs_types::{Memory, Stamp, Text};
 /// option.
 #[derive(Debug, Drop)]
 pub enum Command {
-    /// replay SCRIPT JOURNAL OUTPUT STREAM START END
+    /// replay SCRIPT JOURNAL OUTPUT STREAM START END [--order N] [--turns N] [--batch N] [--moment T]
     Replay {
         script: Text,
         journal: Text,
@@ -13,6 +13,7 @@ pub enum Command {
         stream: Text,
         start: Stamp,
         end: Stamp,
+        options: ReplayOptions,
     },
     /// check SCRIPT OUTPUT STREAM START END
     Check {
@@ -33,6 +34,22 @@ pub enum Command {
         commits: u64,
         text: bool,
     },
+}
+
+/// How a replay goes. An option that is not given has its default here.
+#[derive(Clone, Copy, Debug, PartialEq, Eq)]
+pub struct ReplayOptions {
+    /// `--order`: which READ is made of those that may be made equally well: the one at this place,
+    /// modulo their number. Any number of 1 to 10 digits; by default 0.
+    pub order: u64,
+    /// `--turns`: after how many READs that caught up with the present moment it pauses. From 1 to
+    /// 1,000,000; by default 100.
+    pub turns: u32,
+    /// `--batch`: how many data records and heartbeats one batch takes. From 1 to 8,192; by default
+    /// 1,024.
+    pub batch: u32,
+    /// `--moment`: the present moment for the server. By default the window's end.
+    pub moment: Stamp,
 }
 
 /// Why words are no command.

@@ -1,11 +1,12 @@
-ghost use Rattle.std.specs.Prelude.{◌≡◌, ◌≤◌, length, drop, ℕ, List, MatchOption, Some, map, string_bytes, slice_get, codes, IsTrue, ◌↔◌, IfOk, IfErr};
+ghost use Rattle.std.specs.Prelude.{◌≡◌, ◌≤◌, length, drop, take, ℕ, List, MatchOption, Some, map, string_bytes, slice_get, codes, IfOk, IfErr};
 ghost use Rattle.cs_generator.specs.Generated.{IsSize};
 ghost use Rattle.cs_words.specs.Numbers.{number_reading};
 ghost use Rattle.cs_words.specs.Words.{IsCommand, IsWordsFault};
 
 use crate::numbers::number_of;
+use crate::options::read_options;
 use crate::query::query_word;
-use crate::window::{read_window, stamp_word, word_at};
+use crate::window::{is_word, read_window, stamp_word, word_at};
 use crate::{Command, WordsFault};
 use cs_generator::is_size;
 use cs_types::{Text, Window, written_stamps_read_back};
@@ -49,15 +50,22 @@ fn read_replay(alloc: Global, words: &[String]) -> Result<Command, WordsFault>
     let Some(output) = word_at(words, 3) else {
         return Err(WordsFault::At(3));
     };
-    match read_window(alloc, behind(words, 4)) {
-        Ok(Window { stream, start, end }) => Ok(Command::Replay {
-            script: Text::of(alloc, script)?,
-            journal: Text::of(alloc, journal)?,
-            output: Text::of(alloc, output)?,
-            stream,
-            start,
-            end,
-        }),
+    match read_window(alloc, three_behind(words, 4)) {
+        Ok(Window { stream, start, end }) => {
+            let options = match read_options(words, 7, end) {
+                Ok(options) => options,
+                Err(fault) => return Err(fault),
+            };
+            Ok(Command::Replay {
+                script: Text::of(alloc, script)?,
+                journal: Text::of(alloc, journal)?,
+                output: Text::of(alloc, output)?,
+                stream,
+                start,
+                end,
+                options,
+            })
+        }
         Err(WordsFault::At(place)) => Err(WordsFault::At(place + 4)),
         Err(WordsFault::Memory) => Err(WordsFault::Memory),
     }
@@ -94,6 +102,18 @@ fn behind(words: &[String], at: usize) -> &[String]
     ensures { map string_bytes result.now ≡ drop at (map string_bytes words.now) }
 {
     &words[at..]
+}
+
+/// The words from a place on, at most three.
+fn three_behind(words: &[String], at: usize) -> &[String]
+    requires { at ≤ length words.now }
+    ensures { map string_bytes result.now ≡ take 3 (drop at (map string_bytes words.now)) }
+{
+    let rest = behind(words, at);
+    if rest.len() <= 3 {
+        return rest;
+    }
+    &rest[..3]
 }
 
 fn read_show(alloc: Global, words: &[String]) -> Result<Command, WordsFault>
@@ -161,13 +181,4 @@ fn size_at(words: &[String], at: usize) -> Option<u64>
     } else {
         None
     }
-}
-
-fn is_word(words: &[String], at: usize, text: &str) -> bool
-    ensures { IsTrue result ↔ (slice_get (map string_bytes words.now) at ≡ Some text.now) }
-{
-    let Some(word) = word_at(words, at) else {
-        return false;
-    };
-    word == text
 }

@@ -1,4 +1,4 @@
-ghost use Rattle.std.specs.Prelude.{◌≡◌, ℕ, List, Some, None, map, string_bytes, slice_get, IfOk, IfErr, MatchOption};
+ghost use Rattle.std.specs.Prelude.{◌≡◌, ◌↔◌, ℕ, List, Some, None, map, string_bytes, slice_get, IfOk, IfErr, IsTrue, MatchOption};
 ghost use Rattle.cs_types.specs.Stamp.{Spells};
 ghost use Rattle.cs_words.specs.Words.{IsWindow, AreWindow, IsFaultIn, IsUpTo};
 
@@ -48,6 +48,16 @@ pub(crate) fn word_at(words: &[String], at: usize) -> Option<&str>
         Some(word) => Some(word.as_str()),
         None => None,
     }
+}
+
+/// Whether the word at a place is this.
+pub(crate) fn is_word(words: &[String], at: usize, text: &str) -> bool
+    ensures { IsTrue result ↔ (slice_get (map string_bytes words.now) at ≡ Some text.now) }
+{
+    let Some(word) = word_at(words, at) else {
+        return false;
+    };
+    word == text
 }
 
 /// The stamp that the word at a place spells.

@@ -10,6 +10,7 @@ const HELP: &str =
 
 usage:
   spanstream replay SCRIPT JOURNAL OUTPUT STREAM START END
+    [--order N] [--turns N] [--batch N] [--moment T]
   spanstream check SCRIPT OUTPUT STREAM START END
   spanstream show SCRIPT MOMENT QUERY
   spanstream gen N [--text]
@@ -17,9 +18,10 @@ usage:
   spanstream --help
   spanstream --version
 
-replay writes a line for each change with START <= stamp <= END to the output, in commit
-order, and then a watermark line for END. check judges such an output. show prints what the
-server answers to a query at a moment. gen makes a realistic script of N commits.
+replay reads the stream as a follower does: it writes a line for each change with
+START <= stamp <= END to the output, those of each row in commit order, watermark lines, and last
+that of END. check judges such an output. show prints what the server answers to a query at a
+moment. gen makes a realistic script of N commits.
   SCRIPT   a file to read, at most 67,108,864 bytes: a JSON line for each statement,
            commit or reshape of partitions (docs/FORMATS.md has the form)
   JOURNAL  a file, made where it is absent; it stays as it is
@@ -33,11 +35,13 @@ server answers to a query at a moment. gen makes a realistic script of N commits
 The last line on standard output has the status and its name:
    0 Ended           all is done: of replay and check, the output is complete; of show, each
                      line of the answer stands above
+  10 Paused          replay: as many READs as it may make caught up with the present moment, which is
+                     before END; the output is right so far
   11 Verdict V       check: the output is not complete, and V says what it is
-  20 RetentionPassed T  START is before T, the earliest moment that the stream keeps at END, or
-                     in show at MOMENT
-  21 Refused KIND    the script has no such stream, or it was created after START; in show, the
-                     query is refused, and KIND says why
+  20 RetentionPassed T  START is before T, the earliest moment that the stream keeps at the present
+                     moment: in replay --moment, in show MOMENT
+  21 Refused KIND    the script has no such stream, or it was created after START, or a READ starts
+                     above the present moment; in show, the query is refused, and KIND says why
   41 OutputFault     a call on the output failed
   42 SourceFault     a read of the script failed
   43 ConsoleFault    the write to standard output failed (no line)
@@ -51,16 +55,25 @@ The last line on standard output has the status and its name:
 ";
 
 const REPLAY: &str = "usage: spanstream replay SCRIPT JOURNAL OUTPUT STREAM START END
+       [--order N] [--turns N] [--batch N] [--moment T]
 
-Reads the script, and writes to the output a line for each change that the change stream
-tells from START to END, in commit order, and then a watermark line for END.
+Reads the script, follows the change stream from START to END, and writes to the output a line
+for each change, those of each row in commit order, and watermark lines: up to the stamp of one,
+all changes stand before it. The last one is that of END.
   SCRIPT   a file to read, a JSON line for each statement, commit or reshape
   JOURNAL  a file, made where it is absent; it stays as it is
   OUTPUT   a file, made where it is absent; it must be empty
   STREAM   the name of a change stream of the script
-  START    a stamp, not before the stream's creation and not before END less its retention_period
+  START    a stamp, not before the stream's creation and not before T less its retention_period,
+           nor after T
   END      a stamp that is not below START
-It ends with 0, 20, 21, 41, 42, 43, 50, 51, 55, 60 or 70.
+Options, in any order, each at most once:
+  --order N   which READ is made of those that may be made equally well: the one at place N of their
+              tokens' order, modulo their number; 0 to 9,999,999,999, by default 0
+  --turns N   stop with 10 Paused after N READs that caught up with T; 1 to 1,000,000, by default 100
+  --batch N   how many records one batch takes; 1 to 8,192, by default 1,024
+  --moment T  a stamp: the present moment for the server; by default END
+It ends with 0, 10, 20, 21, 41, 42, 43, 50, 51, 55, 60 or 70.
 
 example: spanstream replay examples/one-insert.script /tmp/journal /tmp/output S 2024-05-01T00:00:01Z 2024-05-01T00:00:01Z
 ";

@@ -164,7 +164,7 @@ fn hint(rt: &HostRuntime, words: &[String], fault: WordsFault) {
         Some(word) => word.as_str(),
         None => "",
     };
-    let expected = expected_at(first, place);
+    let expected = expected_at(words, place);
     let told = match words.get(place) {
         Some(word) => eprintln!(rt; "spanstream: word {place} is {word:?}; expected {expected}"),
         None => eprintln!(rt; "spanstream: word {place} is missing; expected {expected}"),
