@@ -1,14 +1,17 @@
 -- Why no summary of a generated script was made.
-use Rattle.std.proofs.Common.{◌≡◌, ℕ, List, Some, Result, Ok, Err, IfOk, IfErr, IfSome, subst, arith}
+use Rattle.std.proofs.Common.{◌≡◌, ◌≤◌, ℕ, zero, suc, List, [], ◌∷◌, Some, None, Result, Ok, Err, IfOk, IfErr, IfSome, codes, subst, arith, slice_get, Contains}
 use Rattle.cs_generator.specs.Generated.{script_text}
 use Rattle.cs_types.specs.declared.names.Window.{Window}
+use Rattle.cs_types.specs.Members.{in_head, in_tail}
+use Rattle.cs_link.specs.declared.refusal.ReadRefusal.{ReadRefusal}
 use Rattle.cs_schema.specs.declared.types.Stream.{Stream}
-use Rattle.cs_output.specs.Output.{text_of_lines, whole_lines}
+use Rattle.cs_partitions.specs.Layout.{StreamParts}
 use Rattle.cs_script.specs.Database.{Database}
+use Rattle.cs_script.specs.Kept.{AreLayoutsOf}
 use Rattle.cs_script.specs.Script.{Makes}
-use Rattle.cs_tool.specs.Answers.{IsLoadStatus, IsBadText}
-use Rattle.cs_tool.specs.Database.{IsBadScript, wanted_in}
-use Rattle.cs_tool.specs.Gen.{IsGenStatus, IsAuditFault, generated_window}
+use Rattle.cs_tool.specs.Answers.{IsLoadStatus}
+use Rattle.cs_tool.specs.Database.{IsBadScript, IsStreamIn}
+use Rattle.cs_tool.specs.Gen.{IsGenStatus, IsAuditFault, IsPlacedIn, generated_window}
 use Rattle.cs_tool.specs.declared.status.Status.{Status}
 use Rattle.cs_tool.specs.declared.status.Status.TheVariants.{Ended, Paused, Verdict, RetentionPassed, Refused, OutputFault, SourceFault, ConsoleFault, BadWords, BadScript, OutputNotEmpty, BadOutput, Memory}
 
@@ -16,7 +19,7 @@ not_loaded : (commits : ℕ) (text : List ℕ) → text ≡ script_text commits 
 not_loaded commits text e Ended h = h
 not_loaded commits text e Paused h = absurd h
 not_loaded commits text e (Verdict v) h = h
-not_loaded commits text e (RetentionPassed earliest) h = h
+not_loaded commits text e (RetentionPassed earliest) h = absurd h
 not_loaded commits text e (Refused refusal) h = absurd h
 not_loaded commits text e OutputFault h = h
 not_loaded commits text e SourceFault h = absurd (omega (arith, h))
@@ -35,17 +38,47 @@ pub all_made : (commits : ℕ) (text : List ℕ) → text ≡ script_text commit
 all_made commits text e (Ok db) h = subst (λ (bytes : List ℕ). Makes bytes (Ok db)) e h
 all_made commits text e (Err status) h = tt
 
-pub none_audited : (commits : ℕ) (db : Database) (s : Stream) (w : Window) → Makes (script_text commits) (Ok db) → w ≡ generated_window → (status : Status) → IsAuditFault db w s status → IsGenStatus commits status
-none_audited commits db s w made same Ended h = h
-none_audited commits db s w made same Paused h = absurd h
-none_audited commits db s w made same (Verdict v) h = h
-none_audited commits db s w made same (RetentionPassed earliest) h = h
-none_audited commits db s w made same (Refused refusal) h = absurd h
-none_audited commits db s w made same OutputFault h = h
-none_audited commits db s w made same SourceFault h = h
-none_audited commits db s w made same ConsoleFault h = h
-none_audited commits db s w made same (BadWords place) h = h
-none_audited commits db s w made same (BadScript line cause) h = absurd h
-none_audited commits db s w made same (OutputNotEmpty n) h = h
-none_audited commits db s w made same (BadOutput line) h = record { db = db; made = made; stream = s; bad = subst (λ v. IsBadText line (text_of_lines (whole_lines (wanted_in db s v.start v.end) v.end))) same h }
-none_audited commits db s w made same Memory h = tt
+-- ---- the place of the stream
+
+at_place : (streams : List Stream) (place : ℕ) (s : Stream) → slice_get streams place ≡ Some s → Contains streams s
+at_place [] zero s h = absurd cc
+at_place [] (suc place) s h = absurd cc
+at_place (t ∷ ts) zero s h = let e : t ≡ s = cc in subst (λ x. Contains (t ∷ ts) x) e (in_head t ts)
+at_place (t ∷ ts) (suc place) s h = in_tail t s ts (at_place ts place s h)
+
+pub stream_placed : (db : Database) (name : List ℕ) (s : Stream) (l : StreamParts) → IsPlacedIn db name s l → IsStreamIn db name s
+stream_placed db name s l p = record { there = at_place db.streams p.place s p.stream; named = p.named }
+
+-- a stream's place has a layout
+pub has_layout : (streams : List Stream) (layouts : List StreamParts) (place : ℕ) (s : Stream) → AreLayoutsOf streams layouts → slice_get streams place ≡ Some s → slice_get layouts place ≡ None → ⊥
+has_layout [] ls zero s are h none = absurd cc
+has_layout [] ls (suc place) s are h none = absurd cc
+has_layout (t ∷ ts) [] place s are h none = absurd are
+has_layout (t ∷ ts) (l ∷ ls) zero s are h none = absurd cc
+has_layout (t ∷ ts) (l ∷ ls) (suc place) s are h none = has_layout ts ls place s are.1 h none
+
+-- ---- an output that is not complete
+
+module _ (commits : ℕ) (db : Database) (s : Stream) (made : Makes (script_text commits) (Ok db)) (there : IsStreamIn db (codes "G") s) (born : s.created ≤ generated_window.start) where
+  not_audited : (status : Status) → IsAuditFault db generated_window s status → IsGenStatus commits status
+  not_audited Ended h = h
+  not_audited Paused h = absurd h
+  not_audited (Verdict v) h = h
+  not_audited (RetentionPassed earliest) h = (db, made, record { stream = s; there = there; created = born; earliest_is = h.0; before = h.1 })
+  not_audited (Refused refusal) h = absurd h
+  not_audited OutputFault h = h
+  not_audited SourceFault h = h
+  not_audited ConsoleFault h = h
+  not_audited (BadWords place) h = h
+  not_audited (BadScript line cause) h = absurd h
+  not_audited (OutputNotEmpty n) h = h
+  not_audited (BadOutput line) h = (db, made, (s, there, h))
+  not_audited Memory h = tt
+
+pub none_audited : (commits : ℕ) (db : Database) (s : Stream) (w : Window) → Makes (script_text commits) (Ok db) → w ≡ generated_window → IsStreamIn db w.stream s → s.created ≤ w.start → (status : Status) → IsAuditFault db w s status → IsGenStatus commits status
+none_audited commits db s w made same there born status h =
+    not_audited commits db s made
+    (subst (λ (v : Window). IsStreamIn db v.stream s) same there)
+    (subst (λ (v : Window). s.created ≤ v.start) same born)
+    status
+    (subst (λ (v : Window). IsAuditFault db v s status) same h)

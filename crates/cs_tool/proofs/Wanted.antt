@@ -5,6 +5,7 @@ use Rattle.std.specs.Prelude.{filter_map}
 use Rattle.std.specs.List.{cons_option}
 use Rattle.std.specs.Int.{is_in_range}
 use Rattle.cs_types.specs.Change.{wanted_changes}
+use Rattle.cs_types.specs.Members.{in_nil, in_cons}
 use Rattle.cs_types.specs.declared.change.Change.{Change}
 use Rattle.cs_records.specs.declared.captured.Captured.{Captured}
 use Rattle.cs_schema.specs.declared.types.Stream.{Stream}
@@ -52,13 +53,6 @@ same_wanted tables s start end (m ∷ ms) born =
         same ∙ sym (ap (λ b. cond (b && nat_le m.stamp end) (change_of s (key_of (table_named m.row.table tables)) m ∷ wanted_changes start end (captured_changes tables s ms)) (wanted_changes start end (captured_changes tables s ms))) out)
 
 -- ---- the place of a stream
-
-in_nil : (s : Stream) → Contains [] s → ⊥
-in_nil s h = grind arith
-
-in_cons : (t s : Stream) (ts : List Stream) → Contains (t ∷ ts) s → (s ≡ t) ⊎ Contains ts s
-in_cons t s ts (zero, l, e) = inl (sym e)
-in_cons t s ts (suc k, l, e) = inr (k, omega arith, e)
 
 pub record IsPlaced (streams : List Stream) (layouts : List StreamParts) (s : Stream) : Type 0 where
   pub place : ℕ

@@ -1,11 +1,10 @@
 -- What the parts of a run answer, this project's own.
 use Rattle.std.specs.Prelude.{◌≡◌, ◌≢◌, ◌⊎◌, ◌<◌, ℕ, List, length, Option, Some, None, IfSome, ⊤}
 use Rattle.std.specs.Io.KnownBytes.{Keeps}
-use Rattle.cs_types.specs.declared.change.Change.{Change}
 use Rattle.cs_types.specs.declared.names.Window.{Window}
 use Rattle.cs_schema.specs.declared.types.Stream.{Stream}
 use Rattle.cs_device.specs.Causes.{Rose}
-use Rattle.cs_output.specs.Output.{IsGood, IsComplete, text_of_lines, whole_lines}
+use Rattle.cs_output.specs.Output.{IsGood, IsComplete}
 use Rattle.cs_output.specs.Reading.{AreLinesOf, IsTextFault}
 use Rattle.cs_output.specs.declared.reading.Line.{Line}
 use Rattle.cs_output.specs.declared.reading.TextFault.TheVariants.{BadLine, NoEnd}
@@ -27,11 +26,6 @@ OnTold (Some old) (Some new) P = P new
 -- where there were bytes, they stand
 abbrev pub KeepsFilled : Option (List ℕ) → Option (List ℕ) → Type 0
 KeepsFilled old new = IfSome old (λ bytes. 0 < length bytes → Keeps old new)
-
--- the text is just the lines of the wanted changes in their order, one line each, and then the watermark of the end; nothing is to be added to it
-pub record IsWholeText (wanted : List Change) (end : ℕ) (text : List ℕ) : Type 0 where
-  pub exact : text ≡ text_of_lines (whole_lines wanted end)
-  pub complete : IsComplete text wanted end
 
 -- the text is complete for what the window wants of the database
 pub record IsCompleteIn (db : Database) (w : Window) (text : List ℕ) : Type 0 where

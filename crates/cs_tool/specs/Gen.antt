@@ -1,17 +1,21 @@
 -- What the generator's command prints, this project's own.
-use Rattle.std.specs.Prelude.{◌≡◌, ℕ, List, ◌++◌, codes, decimal, length, slice_get, Ok, Some, ⊤}
+use Rattle.std.specs.Prelude.{◌≡◌, ◌<◌, ◌-◌, ℕ, List, ◌++◌, codes, decimal, length, slice_get, Ok, Some, ⊤}
 use Rattle.cs_types.specs.declared.names.Window.{Window}
 use Rattle.cs_schema.specs.declared.types.Stream.{Stream}
 use Rattle.cs_partitions.specs.Layout.{StreamParts}
 use Rattle.cs_generator.specs.Generated.{script_text, first_stamp, end_stamp}
-use Rattle.cs_output.specs.Output.{text_of_lines, whole_lines}
+use Rattle.cs_link.specs.declared.refusal.ReadRefusal.{ReadRefusal}
+use Rattle.cs_output.specs.Output.{IsComplete}
+use Rattle.cs_schedule.specs.declared.entry.Entry.{Entry}
 use Rattle.cs_script.specs.Database.{Database}
 use Rattle.cs_script.specs.Script.{Makes}
-use Rattle.cs_tool.specs.Answers.{IsWholeText, IsBadText}
-use Rattle.cs_tool.specs.Database.{wanted_in, IsBadScript}
-use Rattle.cs_link.specs.declared.refusal.ReadRefusal.{ReadRefusal}
+use Rattle.cs_tail.specs.declared.outcome.Outcome.TheVariants.{Ended}
+use Rattle.cs_text.specs.Output.{output_of}
+use Rattle.cs_tool.specs.Answers.{IsBadText}
+use Rattle.cs_tool.specs.Database.{IsStreamIn, wanted_in, IsBadScript, IsPassed}
+use Rattle.cs_tool.specs.Following.{IsRun, IsBarred}
 use Rattle.cs_tool.specs.declared.status.Status.{Status}
-use Rattle.cs_tool.specs.declared.status.Status.TheVariants.{Refused, BadScript, BadOutput, Memory}
+use Rattle.cs_tool.specs.declared.status.Status.TheVariants.{RetentionPassed, Refused, BadScript, BadOutput, Memory}
 
 -- the stream of a generated script, and the window of its commits
 abbrev pub generated_window : Window
@@ -30,6 +34,12 @@ summary_text commits changes parts =
     codes "gen " ++ (decimal commits ++ (codes " commits " ++ (decimal commits ++ (codes " changes " ++ (decimal changes ++ (codes " parts " ++ (decimal parts
     ++ codes "\norder 0 Complete\norder 1 Complete\norder 2 Complete\n0 Ended\n")))))))
 
+-- a follower of the window, over the server of the database at the window's end, has ended, and its output is complete
+pub record IsAudited (db : Database) (w : Window) (s : Stream) : Type 0 where
+  pub entries : List Entry
+  pub run : IsRun db w s w.end Ended entries
+  pub complete : IsComplete (output_of w entries) (wanted_in db s w.start w.end) w.end
+
 -- the summary of the script of so many commits; the output of each order was audited as complete
 pub record IsSummary (commits : ℕ) (text : List ℕ) : Type 0 where
   pub db : Database
@@ -37,31 +47,37 @@ pub record IsSummary (commits : ℕ) (text : List ℕ) : Type 0 where
   pub stream : Stream
   pub parts : StreamParts
   pub placed : IsPlacedIn db (codes "G") stream parts
-  pub complete : IsWholeText (wanted_in db stream first_stamp end_stamp) end_stamp (text_of_lines (whole_lines (wanted_in db stream first_stamp end_stamp) end_stamp))
+  pub audited : IsAudited db generated_window stream
   pub text_is : text ≡ summary_text commits (length (wanted_in db stream first_stamp end_stamp)) (length parts.parts)
 
--- this line of the output of a generated script is none
-pub record IsBadGenerated (commits line : ℕ) : Type 0 where
-  pub db : Database
-  pub made : Makes (script_text commits) (Ok db)
-  pub stream : Stream
-  pub bad : IsBadText line (text_of_lines (whole_lines (wanted_in db stream first_stamp end_stamp) end_stamp))
-
--- the output of a window was not audited as complete
+-- the output of a window was not audited as complete: its start is not kept any more, or this line of what a follower left is none
 abbrev pub IsAuditFault : Database → Window → Stream → Status → Type 0
-IsAuditFault db w s (BadOutput line) = IsBadText line (text_of_lines (whole_lines (wanted_in db s w.start w.end) w.end))
+IsAuditFault db w s (RetentionPassed earliest) = (earliest ≡ w.end - s.retention_us) × (w.start < earliest)
+IsAuditFault db w s (BadOutput line) = (entries : List Entry) × IsRun db w s w.end Ended entries × IsBadText line (output_of w entries)
 IsAuditFault db w s Memory = ⊤
 IsAuditFault db w s _ = ⊥
 
--- the generated script has no stream of its name
+-- the generated script makes a database of which this holds
+abbrev pub OnGenerated : ℕ → (Database → Type 0) → Type 0
+OnGenerated commits P = (db : Database) × Makes (script_text commits) (Ok db) × P db
+
+-- the generated script has no stream of its name, or one that was created behind the window's start
 abbrev pub IsRefusedGenerated : ℕ → ReadRefusal → Type 0
-IsRefusedGenerated commits ReadRefusal.UnknownFunction = (db : Database) × Makes (script_text commits) (Ok db)
-IsRefusedGenerated commits _ = ⊥
+IsRefusedGenerated commits refusal = OnGenerated commits (λ db. IsBarred db generated_window refusal)
+
+-- at the window's end its stream keeps nothing of its start any more
+abbrev pub IsPassedGenerated : ℕ → ℕ → Type 0
+IsPassedGenerated commits earliest = OnGenerated commits (λ db. IsPassed db generated_window end_stamp earliest)
+
+-- this line of what a follower left is none
+abbrev pub IsBadGenerated : ℕ → ℕ → Type 0
+IsBadGenerated commits line = OnGenerated commits (λ db. (s : Stream) × IsStreamIn db (codes "G") s × (entries : List Entry) × IsRun db generated_window s end_stamp Ended entries × IsBadText line (output_of generated_window entries))
 
 -- no summary was made
 abbrev pub IsGenStatus : ℕ → Status → Type 0
 IsGenStatus commits (BadScript line cause) = IsBadScript line cause (script_text commits)
 IsGenStatus commits (Refused refusal) = IsRefusedGenerated commits refusal
+IsGenStatus commits (RetentionPassed earliest) = IsPassedGenerated commits earliest
 IsGenStatus commits (BadOutput line) = IsBadGenerated commits line
 IsGenStatus commits Memory = ⊤
 IsGenStatus commits _ = ⊥

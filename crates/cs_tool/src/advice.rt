@@ -31,7 +31,7 @@ pub(crate) fn refusal_advice(refusal: &ReadRefusal) -> &'static str
             "START lies further back than the stream keeps its changes: take a later START"
         }
         ReadRefusal::StartInFuture(_) => {
-            "start_timestamp of QUERY lies behind MOMENT: take an earlier start, or a later MOMENT"
+            "the READ starts behind the present moment (--moment of replay, MOMENT of show): take an earlier start, or a later moment"
         }
         ReadRefusal::UnknownToken => {
             "no partition of the stream has this partition_token: the answer to a QUERY with the token NULL lists them"

@@ -73,7 +73,7 @@ fn said_of(
 }
 
 /// The entries that a follower of the stream makes over the server of its state, and how it stopped.
-fn followed(
+pub(crate) fn followed(
     alloc: Global,
     state: &ServerState,
     stream: &Stream,
@@ -98,7 +98,7 @@ fn followed(
 }
 
 /// The status that says an outcome.
-fn status_of(outcome: Outcome) -> Status
+pub(crate) fn status_of(outcome: Outcome) -> Status
     requires { IsToBeSaid outcome }
     ensures { IsSaidBy outcome result }
 {
