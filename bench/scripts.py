@@ -111,17 +111,40 @@ def reshapes(count):
         yield commit(spread(k, count), f"t{k}", insert(pick.randrange(2 ** 60), k))
 
 
-def many_parts(count):
-    """As many partitions as a stream may have, the ended ones counted, and commits behind them."""
+def split(splits, ways, count):
+    """The first so many partitions split each into as many as `ways`, before all commits, and commits behind them."""
     yield PREAMBLE
     ranges = [(0, 2 ** 60)]
-    for k in range(PARTS // 64 - 1):
-        low, width = ranges[k][0], ranges[k][1] // 64
-        ranges += [(low + width * it, width) for it in range(64)]
-        borders = [{"key": {"K": str(low + width * it)}, "table": "T"} for it in range(1, 64)]
+    for k in range(splits):
+        low, width = ranges[k][0], ranges[k][1] // ways
+        ranges += [(low + width * it, width) for it in range(ways)]
+        borders = [{"key": {"K": str(low + width * it)}, "table": "T"} for it in range(1, ways)]
         yield line(1 + k, reshape={"borders": borders, "parts": [f"S-{k:05}"], "stream": "S"})
     for k in range(count):
         yield commit(spread(k, count), f"t{k}", insert((k * 7919 * 2 ** 40 + k) % 2 ** 60, k))
+
+
+def many_parts(count):
+    """As many partitions as a stream may have, the ended ones counted, and commits behind them."""
+    yield from split(PARTS // 64 - 1, 64, count)
+
+
+def nine_parts(count):
+    """One partition that becomes eight, and commits behind them."""
+    yield from split(1, 8, count)
+
+
+def live_parts(count):
+    """4,096 partitions that are live together, 65 that have ended before, and commits behind them."""
+    yield from split(65, 64, count)
+
+
+def chain(count):
+    """A partition that goes on in another one again and again, and a commit in each."""
+    yield PREAMBLE
+    for k in range(count):
+        yield line(spread(k, count), reshape={"borders": [], "parts": [f"S-{k:05}"], "stream": "S"})
+        yield commit(spread(k, count), f"t{k}", insert(k, k))
 
 
 # the row's name, the script, and its sizes; the main one comes first
@@ -133,5 +156,8 @@ SCRIPTS = [
     ("tables", many_tables, (5000, 40000)),
     ("streams", many_streams, (25000, 200000)),
     ("reshapes", reshapes, (3750, 30000)),
+    ("9 parts", nine_parts, (50000, 400000)),
+    ("4,096 parts", live_parts, (50000, 400000)),
     ("65,473 parts", many_parts, (25000, 200000)),
+    ("chain", chain, (2500, 20000)),
 ]
