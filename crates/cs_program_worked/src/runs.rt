@@ -18,6 +18,12 @@ const SILENT: &str =
 
 const ONE: &str = "replay a b c S 2024-05-01T00:00:01Z 2024-05-01T00:00:01Z";
 
+const PAUSED_WORDS: &str =
+    "replay a b c S 2024-05-01T00:00:01Z 2024-05-01T00:00:10Z --moment 2024-05-01T00:00:05Z --turns 2";
+
+const PAUSED: &str =
+    "10|10 Paused\n|journal|{\"key\":{\"K\":\"1\"},\"kind\":\"INSERT\",\"new\":{\"A\":\"5\",\"B\":\"x\"},\"old\":{},\"stamp\":\"2024-05-01T00:00:01Z\",\"table\":\"T\",\"tx\":\"t1\"}\n{\"watermark\":\"2024-05-01T00:00:05Z\"}\n|";
+
 const EMPTY: &str = "replay a b c S 2024-05-01T00:00:10Z 2024-05-01T00:00:20Z";
 
 /// What a run over objects that do not fail tells.
@@ -38,6 +44,12 @@ fn an_empty_window_is_a_watermark(rt: HostRuntime) -> Result<(), Fail> {
         told.as_str(),
         "0|0 Ended\n|journal|{\"watermark\":\"2024-05-01T00:00:20Z\"}\n|"
     );
+    Ok(())
+}
+
+#[test]
+fn a_moment_before_the_end_pauses(rt: HostRuntime) -> Result<(), Fail> {
+    assert_eq!(rt; plain(rt.alloc(), PAUSED_WORDS, INSERT, "")?.as_str(), PAUSED);
     Ok(())
 }
 
