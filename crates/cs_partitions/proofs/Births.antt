@@ -9,13 +9,13 @@ use Rattle.cs_place.specs.declared.part.Part.{Part}
 use Rattle.cs_place.specs.Layout.{IsSoundLayout}
 use Rattle.cs_partitions.proofs.Pairs.{one_of_a_token}
 use Rattle.cs_types.specs.Names.{is_same, is_among}
+use Rattle.cs_types.specs.Members.{in_head, in_tail, from_filter, from_map}
 use Rattle.cs_partitions.specs.Tokens.{token_of, AreOfOneStream}
 use Rattle.cs_partitions.specs.Layout.{StreamParts, IsLayout, first_part}
 use Rattle.cs_partitions.specs.Reshape.{parts_named, joined_range, ranges_between, do_meet, index_named, with_end, new_parts}
 use Rattle.cs_partitions.specs.Fault.{first_fault}
 use Rattle.cs_partitions.specs.Views.{children_of}
 use Rattle.cs_partitions.specs.Births.{IsNear, AreBirths}
-use Rattle.cs_partitions.proofs.Members.{in_head, in_tail, from_filter, from_map}
 use Rattle.cs_partitions.proofs.Naming.{same_is, same_itself, among_is, is_there, named_are, none_ended, token_named}
 use Rattle.cs_partitions.proofs.Runs.{IsFollower, followers_are}
 use Rattle.cs_partitions.proofs.Sound.{same_part, is_applied, IsApplied}
@@ -59,7 +59,7 @@ not_of_others t at named new each other = no_children t new f
     f : (p : Part) → Contains new p → Contains p.parents t → ⊥
     f p i k =
         let m = from_map (λ (z : Part). z.token) t (filter (λ (z : Part). do_meet z.range p.range) named) (subst (λ z. Contains z t) (each p i).parents k) in
-        other m.0 (from_filter (λ (z : Part). do_meet z.range p.range) m.0 named m.1).0 m.2
+        other m.0 (from_filter (λ (z : Part). do_meet z.range p.range) m.0 named m.1).0 (sym m.2)
 
 between_left : (s e : ℕ) (xs ys : List Part) → s ≤ e → e ≤ length xs → take (e - s) (drop s (xs ++ ys)) ≡ take (e - s) (drop s xs)
 between_left s e xs ys a b = ap (take (e - s)) (drop-append-le s xs ys (omega (arith, a, b))) ∙ take-append-le (e - s) (drop s xs) ys (omega (arith, length-drop s xs, a, b))

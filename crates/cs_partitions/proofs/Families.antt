@@ -11,9 +11,9 @@ use Rattle.cs_place.specs.Part.{is_below}
 use Rattle.cs_place.specs.Layout.{IsSoundLayout}
 use Rattle.cs_partitions.specs.Layout.{StreamParts, IsLayout, IsLower, AreSiblingsByLow, AreNamedByLow}
 use Rattle.cs_partitions.specs.Reshape.{parts_named, joined_range, do_meet, with_end, new_parts}
-use Rattle.cs_partitions.proofs.Members.{in_nil, from_filter, in_map, from_map}
 use Rattle.cs_partitions.proofs.Pairs.{one_of_a_token, pairs_append, pairs_map, pairs_more}
 use Rattle.cs_types.specs.Names.{is_among}
+use Rattle.cs_types.specs.Members.{in_nil, from_filter, in_map, from_map}
 use Rattle.cs_partitions.specs.Views.{children_of}
 use Rattle.cs_partitions.proofs.Naming.{among_is}
 use Rattle.cs_partitions.proofs.Runs.{runs_rise}
@@ -71,7 +71,7 @@ module _ (l : StreamParts) (at : ℕ) (tokens : List (List ℕ)) (borders : List
   named_parent p i token k =
       let meets = λ (z : Part). do_meet z.range p.range in
       let m = from_map (λ (z : Part). z.token) token (filter meets named) (subst (λ z. Contains z token) (cut.each p i).parents k) in
-      (m.0, (from_filter meets m.0 named m.1).0, m.2)
+      (m.0, (from_filter meets m.0 named m.1).0, sym m.2)
 
   pub children_after : AllPairs AreSiblingsByLow (old ++ new)
   children_after =
@@ -90,7 +90,7 @@ module _ (l : StreamParts) (at : ℕ) (tokens : List (List ℕ)) (borders : List
       across x y i j token k m =
           let o = from_map (with_end tokens at) x l.parts i in
           let n = named_parent y j token m in
-          let there : Contains o.0.parents token = subst (λ z. Contains z token) (sym (ap (λ (z : Part). z.parents) o.2) ∙ (same_part tokens at o.0).parents) k in
+          let there : Contains o.0.parents token = subst (λ z. Contains z token) (ap (λ (z : Part). z.parents) o.2 ∙ (same_part tokens at o.0).parents) k in
           absurd (live_is_no_parent l.created l.parts h.sound n.0 (cut.there n.0 n.1).0 (cut.live n.0 n.1) o.0 o.1 (subst (λ z. Contains o.0.parents z) (sym n.2) there))
 
   module _ (sound : IsSoundLayout l.created (old ++ new)) where
@@ -133,7 +133,7 @@ module _ (l : StreamParts) (at : ℕ) (tokens : List (List ℕ)) (borders : List
         ⊎_elim
         (λ (k : Contains old q).
         let o = from_map (with_end tokens at) q l.parts k in
-        subst (λ z. AllPairs Named z) (sym (same_part tokens at o.0).parents ∙ ap (λ (z : Part). z.parents) o.2) (parents_old o.0 o.1))
+        subst (λ z. AllPairs Named z) (sym (same_part tokens at o.0).parents ∙ ap (λ (z : Part). z.parents) (sym o.2)) (parents_old o.0 o.1))
         (λ (k : Contains new q). parents_new q k)
         (Contains-append_cases old new q i)
 

@@ -4,13 +4,13 @@ use Rattle.std.specs.List.{AllPairs}
 use Rattle.std.specs.Ordering.{nat_cmp, is_lt}
 use Rattle.std.specs.Cmp.Lexicographic.{slice_cmp}
 use Rattle.cs_types.specs.Token.{is_token}
+use Rattle.cs_types.specs.Members.{in_nil, in_head, in_cons}
 use Rattle.cs_place.specs.declared.place.Place.{Place}
 use Rattle.cs_place.specs.declared.part.Part.{Part}
 use Rattle.cs_place.specs.Part.{Holds, IsBefore, IsBelowHigh}
 use Rattle.cs_place.specs.Layout.{IsSoundLayout}
 use Rattle.cs_partitions.specs.Tokens.{token_of}
 use Rattle.cs_partitions.specs.Layout.{IsLayout, AreNamedByLow, first_part, new_layout}
-use Rattle.cs_partitions.proofs.Members.{in_nil, in_head, in_cons}
 
 none_below : (xs : List ℕ) → is_lt (slice_cmp nat_cmp xs []) ≡ false
 none_below [] = refl

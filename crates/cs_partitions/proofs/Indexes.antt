@@ -3,10 +3,10 @@ use Rattle.std.proofs.Common.{◌≡◌, ◌≢◌, ℕ, zero, suc, ◌+◌, ◌
 use Rattle.std.specs.List.{slice_get}
 use Rattle.cs_place.specs.declared.part.Part.{Part}
 use Rattle.cs_types.specs.Names.{is_same, is_among}
+use Rattle.cs_types.specs.Members.{in_nil, in_cons}
 use Rattle.cs_partitions.specs.Tokens.{token_of, AreNumbered, AreOfOneStream}
 use Rattle.cs_partitions.specs.Reshape.{part_named, index_named, next_index, with_end}
 use Rattle.std.proofs.lemmas.List.{take_more}
-use Rattle.cs_partitions.proofs.Members.{in_nil, in_cons}
 use Rattle.cs_partitions.proofs.Naming.{same_is, same_itself, same_not}
 use Rattle.cs_partitions.proofs.Numbering.{tokens_differ}
 

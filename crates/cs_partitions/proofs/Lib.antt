@@ -3,7 +3,6 @@ pub mod Births
 pub mod Digits
 pub mod Families
 pub mod First
-pub mod Members
 pub mod Naming
 pub mod Numbering
 pub mod Order

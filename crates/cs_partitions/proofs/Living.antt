@@ -1,5 +1,5 @@
 -- The parts of a sound layout that are live at one moment have different lows, so that sorted by low they rise.
-use Rattle.std.proofs.Common.{◌≡◌, ◌≢◌, ℕ, suc, ◌≤◌, Bool, true, false, cond, List, [], ◌∷◌, filter, length, get_or, ⊎_elim, sym, refl, ap, ◌∙◌, subst, true≢false, Contains, arith}
+use Rattle.std.proofs.Common.{◌≡◌, ◌≢◌, ℕ, suc, ◌≤◌, Bool, true, false, List, [], ◌∷◌, filter, get_or, ⊎_elim, sym, refl, ap, ◌∙◌, subst, true≢false, Contains, arith}
 use Rattle.std.specs.Ordering.{nat_cmp, is_lt}
 use Rattle.std.specs.Cmp.{eq_by_cmp_equiv}
 use Rattle.std.specs.Cmp.Lexicographic.{slice_cmp, nat_list_cmp_total}
@@ -9,6 +9,7 @@ use Rattle.std.proofs.lemmas.List.Kept.{AllPairs-filter}
 use Rattle.std.proofs.lemmas.List.Sorted.{ranks_by, sorted_far, IsPermutation-sym, Contains-permutation, length_permutation}
 use Rattle.std.proofs.lemmas.Map.Keys.{IsDistinct-IsPermutation, apart_from_distinct}
 use Rattle.cs_types.specs.Names.{is_same}
+use Rattle.cs_types.specs.Members.{in_head, in_tail, in_filter, from_filter, filter_shorter}
 use Rattle.cs_place.specs.declared.place.Place.{Place}
 use Rattle.cs_place.specs.declared.part.Part.{Part}
 use Rattle.cs_place.specs.Held.{live_is}
@@ -16,7 +17,6 @@ use Rattle.cs_place.specs.Part.{is_below, IsLive, Holds, is_live}
 use Rattle.cs_place.specs.Layout.{IsSoundLayout}
 use Rattle.cs_partitions.specs.Layout.{IsLower}
 use Rattle.cs_partitions.specs.Views.{AreLiveByLow}
-use Rattle.cs_partitions.proofs.Members.{in_head, in_tail, in_filter, from_filter}
 use Rattle.cs_partitions.proofs.Order.{same_place, same_or_above, below_not_itself}
 use Rattle.cs_partitions.proofs.Pairs.{pairs_more}
 use Rattle.cs_partitions.proofs.Naming.{same_is, same_itself}
@@ -32,14 +32,6 @@ unfolding IsDistinct
 distinct_of e [] h = tt
 distinct_of e (x ∷ xs) h =
     (all_of (λ y. e x y ≡ false) xs (λ y i. subst (λ z. e x z ≡ false) i.2 (h 0 (suc i.0) y (omega arith) (omega (arith, i.1)))), distinct_of e xs (λ i j d l m. h (suc i) (suc j) d (omega (arith, l)) (omega (arith, m))))
-
-filter_shorter : {A : Type 0} (p : A → Bool) (xs : List A) → length (filter p xs) ≤ length xs
-filter_shorter p [] = omega arith
-filter_shorter p (x ∷ xs) = by (p x) (filter_shorter p xs)
-  where
-    by : (b : Bool) → length (filter p xs) ≤ length xs → length (cond b (x ∷ filter p xs) (filter p xs)) ≤ length (x ∷ xs)
-    by true h = omega (arith, h)
-    by false h = omega (arith, h)
 
 same_low : Part → Part → Bool
 same_low a b = is_same a.range.low.bytes b.range.low.bytes

@@ -8,10 +8,10 @@ use Rattle.std.proofs.lemmas.Bool.Decides.{nat_tests}
 use Rattle.cs_place.specs.declared.part.Part.{Part}
 use Rattle.cs_partitions.specs.declared.fault.LayoutFault.TheVariants.{NoPart, NotLive}
 use Rattle.cs_types.specs.Names.{is_same, is_among}
+use Rattle.cs_types.specs.Members.{in_nil, in_head, in_tail, in_cons}
 use Rattle.std.specs.Option.{option_or}
 use Rattle.cs_partitions.specs.Reshape.{part_named, parts_named, and_then}
 use Rattle.cs_partitions.specs.Fault.{unknown, ended, begin_before, unless}
-use Rattle.cs_partitions.proofs.Members.{in_nil, in_head, in_tail, in_cons}
 use Rattle.cs_partitions.proofs.Order.{is_equal}
 use Rattle.cs_partitions.proofs.Runs.{both}
 

@@ -6,11 +6,11 @@ use Rattle.std.specs.Ordering.{nat_cmp, MatchOrdering}
 use Rattle.std.specs.List.{AllPairs}
 use Rattle.std.proofs.lemmas.Cmp.{ranked}
 use Rattle.std.proofs.lemmas.List.Elements.{Contains-get_or}
+use Rattle.cs_types.specs.Members.{in_nil, in_head, in_tail, in_cons}
 use Rattle.cs_place.specs.declared.place.Place.{Place}
 use Rattle.cs_place.specs.declared.part.Part.{Part}
 use Rattle.cs_partitions.specs.Layout.{StreamParts, IsLayout, IsLower}
 use Rattle.cs_partitions.specs.Views.{IsHolder, AreLiveByLow}
-use Rattle.cs_partitions.proofs.Members.{in_nil, in_head, in_tail, in_cons}
 use Rattle.cs_partitions.proofs.Order.{below_not_itself, below_not_above}
 
 -- the parts at two indexes are the same, where both have a place at a moment: so are the indexes

@@ -1,6 +1,7 @@
 -- Parts each of which begins where the one before ends have each place between their ends once.
 use Rattle.std.proofs.Common.{◌≡◌, ◌⊎◌, ℕ, suc, Bool, true, false, ◌&&◌, List, [], ◌∷◌, Option, Some, None, inl, inr, ⊎_elim, sym, refl, ap, ◌∙◌, subst, true≢false, Contains, length, arith}
 use Rattle.std.specs.List.{AllPairs}
+use Rattle.cs_types.specs.Members.{in_nil, in_head, in_tail, in_cons}
 use Rattle.cs_place.specs.declared.place.Place.{Place}
 use Rattle.cs_place.specs.declared.part.Range.{Range}
 use Rattle.cs_place.specs.declared.part.Part.{Part}
@@ -10,7 +11,6 @@ use Rattle.cs_partitions.specs.Reshape.{joined_range, last_high, ranges_between,
 use Rattle.cs_partitions.specs.Fault.{goes_on, go_on, are_neighbours, divides, all_divide, rise_from, are_rising}
 use Rattle.cs_partitions.specs.Layout.{IsLower}
 use Rattle.cs_partitions.proofs.Pairs.{pairs_cons}
-use Rattle.cs_partitions.proofs.Members.{in_nil, in_head, in_tail, in_cons}
 use Rattle.cs_partitions.proofs.Order.{is_equal, same_place, below_not_itself, below_not_above, then_from, from_from, below_high}
 use Rattle.std.proofs.lemmas.Map.Lookups.{exact_bytes}
 

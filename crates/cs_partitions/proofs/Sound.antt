@@ -11,6 +11,7 @@ use Rattle.cs_partitions.specs.declared.fault.LayoutFault.{LayoutFault}
 use Rattle.cs_partitions.specs.declared.fault.LayoutFault.TheVariants.{NotNeighbours, BorderOutside, BordersNotRising, StampNotAfter, TooManyParts, TooWide}
 use Rattle.std.specs.Option.{option_or}
 use Rattle.cs_types.specs.Names.{is_among}
+use Rattle.cs_types.specs.Members.{in_head, in_filter, from_filter, in_map, from_map}
 use Rattle.cs_partitions.specs.Tokens.{most_parts}
 use Rattle.cs_partitions.specs.Layout.{StreamParts, IsLayout, IsLower}
 use Rattle.cs_partitions.specs.Reshape.{parts_named, joined_range, ranges_between, do_meet, parents_of, with_end, new_parts}
@@ -19,7 +20,6 @@ use Rattle.std.proofs.lemmas.Bool.{cases_lt}
 use Rattle.std.specs.List.{AllPairs}
 use Rattle.std.proofs.lemmas.List.Kept.{AllPairs-filter}
 use Rattle.cs_partitions.proofs.Pairs.{one_of_a_token, pairs_more, pairs_map}
-use Rattle.cs_partitions.proofs.Members.{in_head, in_filter, from_filter, in_map, from_map}
 use Rattle.cs_partitions.proofs.Order.{from_high, below_not_above, below_not_itself}
 use Rattle.cs_partitions.proofs.Runs.{both, Runs, runs_in, runs_out, runs_one, runs_have, runs_first, runs_rise, neighbours_run, followers_run, IsFollower, followers_are}
 use Rattle.cs_partitions.proofs.Naming.{among_is, is_there, named_are, token_named, none_ended, all_before}
@@ -168,7 +168,7 @@ module _ (created at : ℕ) (parts named fresh : List Part) (tokens : List (List
   unfolding result
   cases q i =
       ⊎_elim
-      (λ (k : Contains (map (with_end tokens at) parts) q). inl (from_map (with_end tokens at) q parts k))
+      (λ (k : Contains (map (with_end tokens at) parts) q). let o = from_map (with_end tokens at) q parts k in inl (o.0, o.1, sym o.2))
       (λ (k : Contains fresh q). inr k)
       (Contains-append_cases (map (with_end tokens at) parts) fresh q i)
 
@@ -388,7 +388,7 @@ module _ (created at : ℕ) (parts named fresh : List Part) (tokens : List (List
           let there = (c.there m.0 n.0).0 in (
             with_end tokens at m.0,
             in_old m.0 there,
-            same.token ∙ m.2,
+            same.token ∙ sym m.2,
             record {
               moment = ap (λ (z : Part). z.until) (ended_is tokens at m.0 e) ∙ ap Some (sym is.from);
               places = subst (λ z. Meet z p.range) (sym same.range) (meet_at m.0.range p.range (c.sound.ranges m.0 there) (runs_have low fresh high c.new p i) n.1);
