@@ -7,10 +7,10 @@ use Rattle.std.specs.Ordering.{nat_cmp, ordering_reverse, is_lt}
 use Rattle.std.specs.Cmp.Lexicographic.{slice_cmp, nat_list_cmp_total}
 use Rattle.std.proofs.lemmas.Bool.{cases_lt, cases_Bool}
 use Rattle.std.proofs.lemmas.Map.Lookups.{exact_bytes}
+use Rattle.cs_types.specs.Members.{Pairwise, in_nil, in_head, in_tail, in_cons}
 use Rattle.cs_schedule.specs.declared.row.Row.{Row}
 use Rattle.cs_schedule.specs.Board.{IsOrdered}
-use Rattle.cs_schedule.specs.Consistent.{Pairwise, put_row, put_rows}
-use Rattle.cs_schedule.proofs.Tools.{in_nil, in_head, in_tail, in_cons}
+use Rattle.cs_schedule.specs.Consistent.{put_row, put_rows}
 use Rattle.cs_schedule.proofs.Moves.{put_kept, put_from}
 use Rattle.cs_schedule.proofs.Places.{Below, ordered_at, below_trans, same_at}
 

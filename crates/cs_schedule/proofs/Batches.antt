@@ -1,5 +1,6 @@
 -- A faithful batch in the form in which the theory uses it.
 use Rattle.cs_types.specs.declared.change.Change.{Change}
+use Rattle.cs_types.specs.Members.{Pairwise, pairs_from}
 use Rattle.cs_place.specs.declared.part.Part.{Part}
 use Rattle.cs_place.specs.Part.{Holds}
 use Rattle.cs_link.specs.declared.feed.Feed.{Feed}
@@ -12,9 +13,8 @@ use Rattle.std.proofs.Common.{◌≡◌, ◌≢◌, ◌⊎◌, ◌↔◌, ℕ, s
 use Rattle.cs_link.specs.declared.batch.Ending.{Ending}
 use Rattle.cs_link.specs.declared.batch.Ending.TheVariants as endings
 use Rattle.cs_link.specs.Batch.{IsFaithfulPart}
-use Rattle.cs_schedule.specs.Consistent.{Pairwise, is_end, HasRow, born, news, through_by}
+use Rattle.cs_schedule.specs.Consistent.{is_end, HasRow, born, news, through_by}
 use Rattle.cs_schedule.specs.declared.row.Row.{Row}
-use Rattle.cs_schedule.proofs.Tools.{to_pairs}
 
 -- a child of the part
 abbrev pub IsChild : Feed → ℕ → Part → NewChild → Type 0
@@ -43,7 +43,7 @@ pub true_batch : (f : Feed) (e : ℕ) (k : Known) (q : Part) (b : Batch) → IsF
 true_batch f e k q b T =
     record {
       start = ⊎_elim (λ h. inl (ap suc h)) (λ h. inr h) T.start;
-      order = to_pairs (λ (c d : Change). (c ≢ d) × (c.stamp ≤ d.stamp)) b.changes T.order;
+      order = pairs_from (λ (c d : Change). (c ≢ d) × (c.stamp ≤ d.stamp)) b.changes T.order;
       wanted = λ c i. let u = T.wanted c i in (u.0.wanted, u.0.held, u.1, u.2, u.3, u.4);
       whole = λ c i h l m. T.whole c (record { wanted = i; held = h }) l m;
       rises = omega (arith, T.rises);

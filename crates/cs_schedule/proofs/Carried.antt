@@ -1,6 +1,7 @@
 -- The ordered lists where a row is changed, or put among the others.
 use Rattle.std.proofs.Common.{◌≡◌, ℕ, zero, suc, ◌<◌, ◌≤◌, Bool, true, false, not, ◌&&◌, ◌||◌, Option, Some, None, List, [], ◌∷◌, ◌++◌, length, map, get_or, set, sym, refl, ap, ◌∙◌, subst, arith, true≢false, Contains}
 use Rattle.std.specs.List.{insert}
+use Rattle.cs_types.specs.Members.{from_map}
 use Rattle.cs_schedule.specs.declared.row.Row.{Row}
 use Rattle.cs_schedule.specs.declared.index.Index.{Index}
 use Rattle.cs_schedule.specs.declared.update.Moved.{Moved}
@@ -10,7 +11,6 @@ use Rattle.cs_schedule.specs.Index.{AreSorted, put_key, take_key, slots_from, be
 use Rattle.cs_schedule.specs.Update.{moved, AreUnfinished}
 use Rattle.cs_schedule.proofs.Indexed.{ended_kept, ended_without, ended_put, ended_fresh, keys_kept, keys_mapped, its_taken, less_taken, its_put, its_gone, way, less_way, its_new, none_free, none_finished}
 use Rattle.cs_schedule.proofs.Sorted.{slots_sorted}
-use Rattle.cs_schedule.proofs.Tools.{from_map}
 use Rattle.std.proofs.lemmas.List.Elements.{Contains-append_left}
 
 pub changed_here : (f : Row → Row) (rows : List Row) (i : ℕ) (x y : Row) → i < length rows → x ≡ get_or rows i x → y ≡ get_or (changed_at f i rows) i y → y ≡ f x

@@ -4,6 +4,7 @@ use Rattle.std.proofs.lemmas.Bool.{and_parts}
 use Rattle.std.proofs.lemmas.List.{take_more, take_all}
 use Rattle.std.proofs.lemmas.List.Elements.{Contains-append_right, Contains-append_cases}
 use Rattle.cs_types.specs.declared.names.Window.{Window}
+use Rattle.cs_types.specs.Members.{in_nil, in_head, in_cons}
 use Rattle.cs_schedule.specs.declared.entry.Entry.{Entry}
 use Rattle.cs_schedule.specs.declared.entry.Entry.TheVariants.{Begin, Opened, Progress, Finished}
 use Rattle.cs_schedule.specs.declared.row.Row.{Row}
@@ -17,7 +18,6 @@ use Rattle.cs_schedule.proofs.Entered.{folds_from}
 use Rattle.cs_schedule.proofs.Folding.{Same, apply_same, told, tells}
 use Rattle.cs_schedule.proofs.More.{folds_more}
 use Rattle.cs_schedule.proofs.Orderly.{opened_ordered, progress_ordered, finished_ordered}
-use Rattle.cs_schedule.proofs.Tools.{in_nil, in_head, in_cons}
 
 abbrev pub AllInFormat : List Entry → Type 0
 AllInFormat es = (y : Entry) → Contains es y → IsInFormat y

@@ -6,6 +6,7 @@ use Rattle.std.specs.Ordering.{nat_cmp, ordering_then, is_eq}
 use Rattle.std.specs.Cmp.Lexicographic.{slice_cmp}
 use Rattle.std.proofs.lemmas.Bool.{and_parts, and_from, leb-true, le-leb, eqb-true, eq-eqb}
 use Rattle.cs_types.specs.declared.names.Window.{Window}
+use Rattle.cs_types.specs.Members.{in_nil, in_head, in_tail, in_cons, in_flat, in_map, from_map}
 use Rattle.cs_link.specs.declared.batch.NewChild.{NewChild}
 use Rattle.cs_schedule.specs.declared.entry.Entry.{Entry}
 use Rattle.cs_schedule.specs.declared.entry.Entry.TheVariants.{Begin, Opened, Progress, Finished}
@@ -22,7 +23,7 @@ use Rattle.cs_schedule.proofs.More.{nil_of}
 use Rattle.cs_schedule.proofs.Moves.{puts_kept, puts_new, puts_from, to_has, from_has}
 use Rattle.cs_schedule.proofs.Names.{text_itself}
 use Rattle.cs_schedule.proofs.Places.{Below, equal_is, below_differs}
-use Rattle.cs_schedule.proofs.Tools.{in_nil, in_head, in_tail, in_cons, in_flat, in_map, from_map, not_true}
+use Rattle.cs_schedule.proofs.Tools.{not_true}
 use Rattle.cs_schedule.proofs.Updating.{token_of}
 
 -- ---- the row of a token

@@ -1,6 +1,7 @@
 -- The board of consistent entries.
 use Rattle.std.proofs.Common.{◌≡◌, ℕ, ◌<◌, true, false, List, [], ◌∷◌, ◌++◌, map, length, Option, Some, None, Ok, ⊎_elim, sym, refl, ap, ◌∙◌, subst, arith, true≢false, Contains, append-nil}
 use Rattle.std.proofs.lemmas.Bool.{cases_Bool}
+use Rattle.cs_types.specs.Members.{in_nil, in_head, in_map, from_map}
 use Rattle.cs_place.specs.declared.part.Part.{Part}
 use Rattle.cs_link.specs.declared.feed.Feed.{Feed}
 use Rattle.cs_link.specs.declared.batch.Batch.{Batch}
@@ -20,7 +21,6 @@ use Rattle.cs_schedule.proofs.OfBatch.{planned_is}
 use Rattle.cs_schedule.proofs.Orphans.{ready}
 use Rattle.cs_schedule.proofs.Parts.{facts}
 use Rattle.cs_schedule.proofs.Readiness.{reads_ready}
-use Rattle.cs_schedule.proofs.Tools.{in_nil, in_head, in_map, from_map}
 
 module _ (es : List Entry) (b : Shown) (B : IsBoardOf es b) where
   to_row : (r : Row) → Contains b.rows r → Contains (rows_of b.window.start es) (fresh r)

@@ -5,6 +5,7 @@ use Rattle.std.specs.Ordering.{nat_cmp, is_lt}
 use Rattle.std.specs.Cmp.Lexicographic.{slice_cmp}
 use Rattle.std.specs.Option.{option_map}
 use Rattle.cs_types.specs.declared.change.Change.{Change}
+use Rattle.cs_types.specs.Members.{in_nil, in_head, in_tail, in_cons}
 use Rattle.cs_link.specs.declared.batch.NewChild.{NewChild}
 use Rattle.cs_schedule.specs.declared.entry.Entry.{Entry}
 use Rattle.cs_schedule.specs.declared.entry.Entry.TheVariants.{Begin, Opened, Progress, Finished}
@@ -14,7 +15,6 @@ use Rattle.cs_schedule.specs.Consistent.{born, advanced, has_row, put_row, put_r
 use Rattle.cs_schedule.specs.Fold.{has_no_row, may_go_on, is_as, may_come, may_follow}
 use Rattle.cs_schedule.specs.Rows.{next_of, seen_at, least_next, low_watermark}
 use Rattle.cs_schedule.proofs.Folding.{Same, filter_same}
-use Rattle.cs_schedule.proofs.Tools.{in_nil, in_head, in_tail, in_cons}
 
 -- ---- rows that nobody reads
 

@@ -6,12 +6,12 @@ use Rattle.cs_types.specs.Change.{of_row, wanted_changes}
 use Rattle.cs_schedule.specs.Outline.{Event, Changed, Watermark, risen, last_after, Step, out_of, changed, watermarks, IsPrefixOf, AreGood, AllRight, last_rows, IsBase}
 use Rattle.cs_schedule.specs.Rows.{least_next, first_open}
 use Rattle.cs_schedule.specs.declared.row.Row.{Row}
-use Rattle.cs_schedule.specs.Consistent.{Pairwise, IsRight}
+use Rattle.cs_schedule.specs.Consistent.{IsRight}
 use Rattle.std.specs.Int.{is_in_range}
 use Rattle.cs_types.specs.Row.{same_row}
 use Rattle.cs_types.specs.Exact.{same_row-is}
+use Rattle.cs_types.specs.Members.{Pairwise, in_nil, in_head, in_tail, in_cons, in_filter, from_filter, snoc_append, pairs_append, pairs_filter, pairs_weaker}
 use Rattle.cs_schedule.proofs.Parts.{Facts}
-use Rattle.cs_schedule.proofs.Tools.{in_nil, in_head, in_tail, in_cons, in_filter, from_filter, pairs_append, pairs_filter, pairs_weaker, snoc_append}
 use Rattle.cs_schedule.proofs.Order.{Later, Rising, prefix_by_stamps, in_wanted, from_wanted, changed_risen, above_risen, Above}
 use Rattle.cs_schedule.proofs.Lines.{changed_append, changed_behind, watermarks_behind, CoversBehind, covers_behind, covers_at}
 use Rattle.cs_schedule.proofs.Cover.{Marked, downward, covered}

@@ -3,6 +3,7 @@ use Rattle.std.proofs.Common.{◌≡◌, ◌<◌, Bool, true, false, List, [], �
 use Rattle.std.specs.Prelude.{IfSome}
 use Rattle.std.proofs.lemmas.List.Elements.{Contains-append_cases}
 use Rattle.cs_types.specs.declared.names.Window.{Window}
+use Rattle.cs_types.specs.Members.{in_nil, in_cons}
 use Rattle.cs_schedule.specs.declared.entry.Entry.{Entry}
 use Rattle.cs_schedule.specs.declared.entry.Entry.TheVariants.{Begin}
 use Rattle.cs_schedule.specs.Board.{Shown, IsOrdered, fresh}
@@ -16,7 +17,6 @@ use Rattle.cs_schedule.proofs.Folded.{AllInFormat, folds_on, rows_on, not_on}
 use Rattle.cs_schedule.proofs.Folding.{Same}
 use Rattle.cs_schedule.proofs.Fresh.{fresh_apply, fresh_follows, fresh_low, same_low}
 use Rattle.cs_schedule.proofs.Orderly.{map_ordered}
-use Rattle.cs_schedule.proofs.Tools.{in_nil, in_cons}
 
 pub begun_board : (w : Window) (b : Shown) → IsInFormat (Begin w) → b.window ≡ w → b.rows ≡ [] → IsBoardOf (Begin w ∷ []) b
 begun_board w b f v n = record {

@@ -1,6 +1,7 @@
 -- The ordered lists beside rows that change: which tokens have ended then, and which slots stand.
 use Rattle.std.proofs.Common.{◌≡◌, ℕ, zero, suc, ◌<◌, ◌≤◌, Bool, true, false, cond, Option, Some, None, IfSome, List, [], ◌∷◌, length, map, get_or, set, sym, refl, ap, ◌∙◌, subst, arith, Contains}
 use Rattle.std.specs.List.{insert}
+use Rattle.cs_types.specs.Members.{in_head, in_tail}
 use Rattle.cs_schedule.specs.declared.row.Row.{Row}
 use Rattle.cs_schedule.specs.declared.slots.Slot.{Slot}
 use Rattle.cs_schedule.specs.Board.{IsOrdered, same_token, row_of, is_ended, has_ended, changed_at, leased, fresh}
@@ -10,7 +11,6 @@ use Rattle.cs_schedule.proofs.Among.{before}
 use Rattle.cs_schedule.proofs.Folding.{in_row}
 use Rattle.cs_schedule.proofs.Places.{Below, equal_is, above_differs}
 use Rattle.cs_schedule.proofs.Sorted.{take_slots, put_slots, slots_less, slots_length, length_set, get_set, in_slots, insert_slots, slot_there}
-use Rattle.cs_schedule.proofs.Tools.{in_head, in_tail}
 
 pub same_fun : (e g : List ℕ → Bool) → ((u : List ℕ) → e u ≡ g u) → e ≡ g
 same_fun e g h = λ i u. h u i

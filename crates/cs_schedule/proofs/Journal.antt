@@ -4,6 +4,7 @@ use Rattle.std.proofs.lemmas.Bool.{le-leb, leb-true, or_cases, and_parts}
 use Rattle.std.proofs.lemmas.List.Elements.{Contains-append_right, Contains-append_cases}
 use Rattle.cs_types.specs.declared.change.Change.{Change}
 use Rattle.cs_types.specs.declared.names.Window.{Window}
+use Rattle.cs_types.specs.Members.{in_nil, in_head, in_cons, in_flat, in_map, from_map}
 use Rattle.cs_place.specs.declared.part.Part.{Part}
 use Rattle.cs_place.specs.Part.{IsBefore, Holds}
 use Rattle.cs_link.specs.declared.batch.Batch.{Batch}
@@ -18,7 +19,6 @@ use Rattle.cs_schedule.specs.declared.row.Row.{Row}
 use Rattle.cs_schedule.specs.Consistent.{known_by, birth_of, IsRowOf, HasRow, HasEnded, HasBegun, InOrder, IsRight, IsConsistentNow, IsConsistent, born, is_end, news, through_by, entry_by, apply, MayMove}
 use Rattle.cs_schedule.specs.Rows.{is_of, changes_in, births_in, changes, births, is_finished, next, row_after, rows_of, HasOpened, GoesOn, Fits, Folds}
 use Rattle.cs_schedule.specs.Spelling.{IsInFormat}
-use Rattle.cs_schedule.proofs.Tools.{in_nil, in_head, in_cons, in_flat, from_map, in_map}
 use Rattle.cs_schedule.proofs.Parts.{Facts, same_token, before_limit}
 use Rattle.cs_schedule.proofs.Batches.{IsTrueBatch, true_batch}
 use Rattle.cs_schedule.proofs.Step.{child}

@@ -1,5 +1,6 @@
 -- Leases change nothing of what entries tell.
 use Rattle.std.proofs.Common.{◌≡◌, ℕ, zero, suc, ◌<◌, Bool, true, List, [], ◌∷◌, map, length, get_or, Option, Some, None, inr, ⊎_elim, sym, refl, ap, ◌∙◌, subst, arith, Contains}
+use Rattle.cs_types.specs.Members.{in_nil, in_head, in_tail, in_cons}
 use Rattle.cs_place.specs.declared.part.Part.{Part}
 use Rattle.cs_link.specs.declared.feed.Feed.{Feed}
 use Rattle.cs_link.specs.declared.batch.Batch.{Batch}
@@ -12,7 +13,6 @@ use Rattle.cs_schedule.specs.Follows.{IsBoardOf, MayCome, MayComeOf}
 use Rattle.cs_schedule.specs.Rows.{rows_of, Folds}
 use Rattle.cs_schedule.proofs.Folding.{Same, in_row}
 use Rattle.cs_schedule.proofs.Readiness.{reads_ready}
-use Rattle.cs_schedule.proofs.Tools.{in_nil, in_head, in_tail, in_cons}
 
 -- a board whose rows differ in who reads them alone is that of the same entries
 pub same_board : (es : List Entry) (b c : Shown) → c.window ≡ b.window → map fresh c.rows ≡ map fresh b.rows → IsBoardOf es b → IsBoardOf es c

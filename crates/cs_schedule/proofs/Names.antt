@@ -11,8 +11,8 @@ use Rattle.std.specs.declared.cmp.Ordering.TheVariants.{Less, Equal, Greater}
 use Rattle.std.specs.Cmp.Lexicographic.{slice_cmp, nat_list_cmp_total}
 use Rattle.cs_types.specs.Row.{row_cmp}
 use Rattle.cs_types.specs.Exact.{same_row-is}
+use Rattle.cs_types.specs.Members.{in_nil, in_head, in_tail, in_cons, pairs_two}
 use Rattle.cs_schedule.specs.Consistent.{Covers}
-use Rattle.cs_schedule.proofs.Tools.{in_nil, in_head, in_tail, in_cons, pairs_two}
 use Rattle.cs_schedule.proofs.Parts.{Facts}
 use Rattle.std.proofs.Common.{◌≡◌, ◌≢◌, ℕ, ◌<◌, true, ◌&&◌, List, [], ◌∷◌, map, ⊎_elim, sym, refl, ap, ◌∙◌, subst, arith, true≢false, Contains, leb, eqb, Decides, suc}
 use Rattle.std.proofs.lemmas.Bool.{and_parts, and_from, or_cases, or_left, or_right, leb-true, le-leb, eqb-true, eq-eqb}

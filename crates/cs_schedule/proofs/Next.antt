@@ -7,6 +7,7 @@ use Rattle.std.specs.Ordering.{nat_cmp}
 use Rattle.std.specs.Cmp.Lexicographic.{slice_cmp}
 use Rattle.std.proofs.lemmas.Bool.{and_parts, and_from, leb-true, le-leb}
 use Rattle.cs_types.specs.declared.change.Change.{Change}
+use Rattle.cs_types.specs.Members.{bytes_same, bytes_itself, in_nil, in_head, in_tail, in_cons, in_map}
 use Rattle.cs_link.specs.declared.batch.Batch.{Batch}
 use Rattle.cs_link.specs.declared.batch.NewChild.{NewChild}
 use Rattle.cs_link.specs.declared.breach.Breach.{Breach}
@@ -24,7 +25,6 @@ use Rattle.cs_schedule.proofs.Among.{lt_is}
 use Rattle.cs_schedule.proofs.OfBatch.{planned_is}
 use Rattle.cs_schedule.proofs.Places.{Below, below_trans, below_differs}
 use Rattle.cs_schedule.proofs.Names.{text_itself}
-use Rattle.cs_schedule.proofs.Tools.{in_nil, in_head, in_tail, in_cons, in_map, bytes_same, bytes_itself}
 use Rattle.cs_schedule.proofs.Updating.{token_of}
 
 -- ---- changes that are left out

@@ -5,11 +5,12 @@ use Rattle.std.specs.Cmp.Lexicographic.{slice_cmp}
 use Rattle.std.proofs.lemmas.Bool.{and_parts}
 use Rattle.std.proofs.lemmas.List.Elements.{Contains-append_right}
 use Rattle.cs_types.specs.declared.change.Change.{Change}
+use Rattle.cs_types.specs.Members.{Pairwise, in_nil, in_head, in_cons, from_filter, from_map}
 use Rattle.cs_link.specs.declared.batch.NewChild.{NewChild}
 use Rattle.cs_schedule.specs.declared.row.Row.{Row}
 use Rattle.cs_schedule.specs.declared.entry.Entry.TheVariants.{Opened, Progress, Finished}
 use Rattle.cs_schedule.specs.Board.{IsOrdered, same_token, changed_at}
-use Rattle.cs_schedule.specs.Consistent.{Pairwise, born, advanced, has_row, rowless, apply}
+use Rattle.cs_schedule.specs.Consistent.{born, advanced, has_row, rowless, apply}
 use Rattle.cs_schedule.specs.Rows.{seen_at}
 use Rattle.cs_schedule.specs.declared.update.Moved.{Moved}
 use Rattle.cs_schedule.specs.Update.{moved, with_moved}
@@ -19,7 +20,7 @@ use Rattle.cs_schedule.proofs.Applied.{not_before}
 use Rattle.cs_schedule.proofs.Moves.{to_has}
 use Rattle.cs_schedule.proofs.Names.{text_itself}
 use Rattle.cs_schedule.proofs.Places.{Below, below_trans, below_differs}
-use Rattle.cs_schedule.proofs.Tools.{in_nil, in_head, in_cons, from_filter, from_map, not_true}
+use Rattle.cs_schedule.proofs.Tools.{not_true}
 
 abbrev pub Apart : Row → Row → Type 0
 Apart a b = a.token ≢ b.token

@@ -1,5 +1,6 @@
 -- What a sound layout gives at one place: its parts follow one another, each the parent of the next.
 use Rattle.cs_types.specs.declared.change.Change.{Change}
+use Rattle.cs_types.specs.Members.{Pairwise, pairs_from, pairs_two}
 use Rattle.cs_place.specs.declared.part.Part.{Part}
 use Rattle.cs_place.specs.declared.place.Place.{Place}
 use Rattle.cs_place.specs.Part.{IsBefore, IsInRange, Holds}
@@ -7,8 +8,7 @@ use Rattle.cs_link.specs.Batch.{limit}
 use Rattle.cs_place.specs.Layout.{IsSoundLayout}
 use Rattle.cs_link.specs.declared.feed.Feed.{Feed}
 use Rattle.cs_link.specs.Feed.{IsFeed}
-use Rattle.cs_schedule.specs.Consistent.{Pairwise}
-use Rattle.cs_schedule.proofs.Tools.{pairs_two, to_pairs, both_pairs}
+use Rattle.cs_schedule.proofs.Tools.{both_pairs}
 use Rattle.std.proofs.Common.{◌≡◌, ◌≢◌, ◌⊎◌, ℕ, ◌-◌, ◌<◌, ◌≤◌, Option, Some, None, ⊎_elim, sym, refl, ap, ◌∙◌, subst, arith, Contains}
 use Rattle.std.proofs.lemmas.Bool.{cases_lt}
 
@@ -24,10 +24,10 @@ pub facts : (f : Feed) → IsFeed f → Facts f
 facts f F =
     record {
       layout = F.layout;
-      tokens = to_pairs (λ (a b : Part). a.token ≢ b.token) f.parts F.layout.tokens;
+      tokens = pairs_from (λ (a b : Part). a.token ≢ b.token) f.parts F.layout.tokens;
       created = F.created;
-      order = both_pairs (λ (c d : Change). c.stamp ≤ d.stamp) (λ (c d : Change). c.stamp ≡ d.stamp → c.row ≢ d.row) f.wanted (to_pairs (λ (c d : Change). c.stamp ≤ d.stamp) f.wanted F.order) (to_pairs (λ (c d : Change). c.stamp ≡ d.stamp → c.row ≢ d.row) f.wanted F.rows);
-      names = to_pairs (λ (c d : Change). c.tx ≡ d.tx → c.row ≢ d.row) f.wanted F.names;
+      order = both_pairs (λ (c d : Change). c.stamp ≤ d.stamp) (λ (c d : Change). c.stamp ≡ d.stamp → c.row ≢ d.row) f.wanted (pairs_from (λ (c d : Change). c.stamp ≤ d.stamp) f.wanted F.order) (pairs_from (λ (c d : Change). c.stamp ≡ d.stamp → c.row ≢ d.row) f.wanted F.rows);
+      names = pairs_from (λ (c d : Change). c.tx ≡ d.tx → c.row ≢ d.row) f.wanted F.names;
     }
 
 -- the part before q at a place of it

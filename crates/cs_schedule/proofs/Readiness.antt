@@ -2,12 +2,13 @@
 use Rattle.std.proofs.Common.{◌≡◌, ◌⊎◌, ℕ, zero, suc, ◌+◌, ◌-◌, ◌%◌, ◌<◌, ◌≤◌, min, Bool, true, false, cond, ◌&&◌, List, [], ◌∷◌, length, map, filter, get_or, Option, Some, None, IfSome, IfNone, ⊎_elim, inl, inr, sym, refl, ap, ◌∙◌, not, ◌↔◌, subst, arith, true≢false, Contains, eqb}
 use Rattle.std.proofs.lemmas.Bool.{cases_lt, cases_Bool, and_parts, and_from, eq-eqb}
 use Rattle.std.proofs.lemmas.Nat.{mod_below}
+use Rattle.cs_types.specs.Members.{in_nil, in_head, in_tail, in_cons, in_filter, from_filter, from_map}
 use Rattle.cs_schedule.specs.declared.row.Row.{Row}
 use Rattle.cs_schedule.specs.Board.{IsOrdered, row_of, is_ended, has_ended, have_ended, may_read, least_behind, fewest_tries, is_chosen, places, element, turn, ready_with, ready_place}
 use Rattle.cs_schedule.specs.Consistent.{HasEnded, IsReady}
 use Rattle.cs_schedule.proofs.Folding.{row_in, in_row}
 use Rattle.cs_schedule.proofs.Places.{same_at}
-use Rattle.cs_schedule.proofs.Tools.{in_nil, in_head, in_tail, in_cons, in_filter, from_filter, from_map, not_true}
+use Rattle.cs_schedule.proofs.Tools.{not_true}
 use Rattle.cs_schedule.proofs.Updating.{token_of}
 
 -- ---- places

@@ -1,5 +1,6 @@
 -- A true batch keeps what is right.
 use Rattle.cs_types.specs.declared.change.Change.{Change}
+use Rattle.cs_types.specs.Members.{bytes_same, bytes_itself, in_nil, in_filter, from_filter, pairs_append, pairs_filter, pairs_weaker}
 use Rattle.cs_place.specs.declared.part.Part.{Part}
 use Rattle.cs_place.specs.Part.{IsBefore, Holds}
 use Rattle.cs_link.specs.declared.feed.Feed.{Feed}
@@ -12,7 +13,7 @@ use Rattle.cs_link.specs.Batch.{limit, seen_of, is_seen, is_known}
 use Rattle.cs_schedule.specs.declared.row.Row.{Row}
 use Rattle.cs_schedule.specs.Consistent.{known_by, birth_of, IsRowOf, HasRow, HasEnded, HasBegun, InOrder, IsRight, born, is_end, news, through_by, MayMove}
 use Rattle.cs_place.specs.Layout.{IsFollowedBy}
-use Rattle.cs_schedule.proofs.Tools.{in_nil, in_filter, from_filter, bytes_same, bytes_itself, pairs_append, pairs_filter, pairs_weaker, not_true}
+use Rattle.cs_schedule.proofs.Tools.{not_true}
 use Rattle.cs_schedule.proofs.Parts.{Facts, same_token, same_holder, same_change, before_earlier}
 use Rattle.cs_schedule.proofs.Names.{covers_known, from_named, in_named, in_names, from_names, same_named}
 use Rattle.cs_schedule.proofs.Batches.{IsChild, IsTrueBatch, true_batch, next_by, moved, IsMoved}

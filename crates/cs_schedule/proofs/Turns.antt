@@ -5,6 +5,7 @@ use Rattle.std.proofs.lemmas.Nat.{mod_below}
 use Rattle.std.specs.declared.cmp.Ordering.TheVariants.{Less}
 use Rattle.std.specs.Ordering.{nat_cmp}
 use Rattle.std.specs.Cmp.Lexicographic.{slice_cmp}
+use Rattle.cs_types.specs.Members.{in_nil, in_head, in_tail, from_map}
 use Rattle.cs_schedule.specs.declared.row.Row.{Row}
 use Rattle.cs_schedule.specs.declared.slots.Slot.{Slot}
 use Rattle.cs_schedule.specs.Board.{IsOrdered, has_ended, have_ended, may_read, fewer, least_behind, fewest_tries, is_chosen, places, element, turn, ready_with, ready_place, IsLowestPair}
@@ -13,7 +14,6 @@ use Rattle.cs_schedule.specs.Open.{put_number, open_of, DoRise}
 use Rattle.cs_schedule.proofs.Indexed.{length_keys, key_at, row_there}
 use Rattle.cs_schedule.proofs.Places.{ordered_at}
 use Rattle.cs_schedule.proofs.Sorted.{Before, Under, le_true, le_false, at_in, at_any, sorted_at, slots_sorted, in_slots, slot_there}
-use Rattle.cs_schedule.proofs.Tools.{in_nil, in_head, in_tail, from_map}
 use Rattle.cs_schedule.proofs.Unfinished.{not_le, not_eq, open_rises}
 
 -- ---- the moments of the slots are those of the unfinished rows

@@ -1,6 +1,7 @@
 -- The moments of the unfinished rows, in rising order: what becomes of them where rows change, and the least of them.
 use Rattle.std.proofs.Common.{◌≡◌, ◌⊎◌, ℕ, zero, suc, ◌-◌, ◌<◌, ◌≤◌, min, Bool, true, false, cond, ◌&&◌, ◌||◌, Option, Some, None, List, [], ◌∷◌, length, get_or, ⊎_elim, inl, inr, sym, refl, ap, ◌∙◌, subst, arith, true≢false, Contains, leb, eqb}
 use Rattle.std.proofs.lemmas.Bool.{cases_lt, leb-true, le-leb, eqb-true, eq-eqb}
+use Rattle.cs_types.specs.Members.{in_nil, in_head, in_tail, in_cons}
 use Rattle.cs_schedule.specs.declared.row.Row.{Row}
 use Rattle.cs_schedule.specs.declared.update.Moved.{Moved}
 use Rattle.cs_schedule.specs.Board.{changed_at}
@@ -10,7 +11,6 @@ use Rattle.cs_schedule.specs.Consistent.{put_row, put_rows}
 use Rattle.cs_schedule.specs.Open.{put_number, take_out, put_open, take_open, put_opens, open_of, DoRise, least, least_among}
 use Rattle.cs_schedule.specs.Rows.{next_of, least_next, low_watermark}
 use Rattle.cs_schedule.proofs.Among.{before}
-use Rattle.cs_schedule.proofs.Tools.{in_nil, in_head, in_tail, in_cons}
 
 pub above : (a b : ℕ) → leb a b ≡ false → b < a
 above a b h = ⊎_elim (λ (l : b < a). l) (λ (l : a ≤ b). absurd (true≢false (sym (le-leb a b l) ∙ h))) (cases_lt b a)

@@ -1,6 +1,7 @@
 -- What an entry of a token makes of rows in the order of their tokens.
 use Rattle.std.proofs.Common.{◌≡◌, ℕ, zero, suc, ◌<◌, Bool, true, false, cond, not, ◌||◌, List, [], ◌∷◌, map, length, get_or, Some, None, sym, refl, ap, ◌∙◌, subst, arith, true≢false, bytes_eq, Contains}
 use Rattle.cs_types.specs.declared.change.Change.{Change}
+use Rattle.cs_types.specs.Members.{bytes_same, bytes_itself, in_head, in_tail}
 use Rattle.cs_schedule.specs.declared.row.Row.{Row}
 use Rattle.cs_schedule.specs.declared.update.Moved.{Moved}
 use Rattle.cs_schedule.specs.Board.{IsOrdered, same_token, row_of, place_from, place_of, changed_at}
@@ -9,7 +10,6 @@ use Rattle.cs_schedule.specs.Plan.{seen_with, has_no}
 use Rattle.cs_schedule.specs.Update.{moved}
 use Rattle.cs_schedule.proofs.Names.{text_itself}
 use Rattle.cs_schedule.proofs.Places.{Below, equal_is, below_differs, above_differs, row_found}
-use Rattle.cs_schedule.proofs.Tools.{in_head, in_tail, bytes_same, bytes_itself}
 
 same_bytes : (a b : List ℕ) → bytes_eq a b ≡ same_token a b
 same_bytes a b = by (bytes_eq a b) (same_token a b) refl refl

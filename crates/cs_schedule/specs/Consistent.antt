@@ -1,9 +1,10 @@
 -- What holds of the rows of the board and of the changes so far while a feed is followed rightly. This project's own.
-use Rattle.std.specs.Prelude.{◌≡◌, ◌≢◌, ◌⊎◌, ◌↔◌, ℕ, suc, ◌-◌, ◌<◌, ◌≤◌, max, Bool, true, false, not, ◌||◌, ⊤, List, [], ◌∷◌, ◌++◌, map, Some, ◌==◌, nat_le, if◌then◌else◌, bytes_eq, filter, Contains}
+use Rattle.std.specs.Prelude.{◌≡◌, ◌≢◌, ◌⊎◌, ◌↔◌, ℕ, suc, ◌-◌, ◌<◌, ◌≤◌, max, Bool, true, false, not, ◌||◌, List, [], ◌∷◌, ◌++◌, map, Some, ◌==◌, nat_le, if◌then◌else◌, bytes_eq, filter, Contains}
 use Rattle.std.specs.Ordering.{nat_cmp, is_lt}
 use Rattle.std.specs.Cmp.Lexicographic.{slice_cmp}
 use Rattle.cs_types.specs.declared.change.Change.{Change}
 use Rattle.cs_types.specs.declared.names.Window.{Window}
+use Rattle.cs_types.specs.Members.{Pairwise}
 use Rattle.cs_place.specs.declared.part.Part.{Part}
 use Rattle.cs_place.specs.Part.{Holds, IsBefore}
 use Rattle.cs_link.specs.declared.batch.Batch.{Batch}
@@ -20,11 +21,6 @@ use Rattle.cs_schedule.specs.declared.entry.Entry.TheVariants.{Begin, Opened, Pr
 use Rattle.cs_schedule.specs.declared.row.Row.{Row}
 use Rattle.cs_schedule.specs.Spelling.{IsInFormat}
 use Rattle.cs_schedule.specs.Rows.{changes, changes_in, rows_of, Folds, next_of, seen_at}
-
--- R holds of each element and each later one
-abbrev pub Pairwise : {A : Type 0} → (A → A → Type 0) → List A → Type 0
-Pairwise R [] = ⊤
-Pairwise R (x ∷ xs) = ((y : _) → Contains xs y → R x y) × Pairwise R xs
 
 -- what a row knows
 abbrev pub known_by : Row → Known

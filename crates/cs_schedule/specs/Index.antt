@@ -1,10 +1,10 @@
 -- Ordered lists of places beside the rows of a board: each place with a number that its row has, in rising order of the number and then of the place. This project's own.
 use Rattle.std.specs.Prelude.{◌≡◌, ℕ, suc, ◌+◌, ◌*◌, ◌%◌, ◌<◌, ◌≤◌, min, Bool, true, false, ◌&&◌, List, [], ◌∷◌, map, length, Option, Some, None, nat_le, ◌==◌, if◌then◌else◌, filter, vec_capacity, Contains}
+use Rattle.cs_types.specs.Members.{Pairwise}
 use Rattle.cs_schedule.specs.declared.row.Row.{Row}
 use Rattle.cs_schedule.specs.declared.slots.Slot.{Slot}
 use Rattle.cs_schedule.specs.declared.index.Index.{Index}
 use Rattle.cs_schedule.specs.Board.{same_token, has_ended, turn}
-use Rattle.cs_schedule.specs.Consistent.{Pairwise}
 
 -- whether a slot stands at or before another
 abbrev pub slot_le : Slot → Slot → Bool
