@@ -10,6 +10,7 @@ use Rattle.std.proofs.lemmas.Map.Lookups.{exact_bytes}
 use Rattle.cs_types.specs.Exact.{same_row-is}
 use Rattle.cs_types.specs.Row.{row_cmp}
 use Rattle.cs_types.specs.declared.change.Change.{Change}
+use Rattle.cs_types.specs.Members.{Pairwise, in_nil, in_head, in_tail, in_cons, in_filter, from_filter, snoc_append, pairs_to, pairs_from, pairs_append, pairs_two, pairs_filter, pairs_weaker, from_map}
 use Rattle.cs_place.specs.declared.part.Part.{Part}
 use Rattle.cs_place.specs.Part.{IsBefore}
 use Rattle.cs_records.specs.declared.records.DataRecord.{DataRecord}
@@ -24,7 +25,7 @@ use Rattle.cs_link.specs.Feed.{IsOf, IsFeed}
 use Rattle.cs_link.specs.Honest.{MayTell}
 use Rattle.cs_fetch.specs.Keeping.{dated, dated_cmp, is_kept, keep}
 use Rattle.cs_link.specs.Reading.{changes}
-use Rattle.cs_fetch.proofs.Lists.{Pairwise, in_nil, in_head, in_tail, in_cons, in_filter, from_filter, pairs_append, pairs_two, pairs_filter, pairs_weaker, pairs_of, all_pairs, snoc_append, none_any, from_map}
+use Rattle.cs_fetch.proofs.Lists.{none_any}
 
 -- ---- names
 
@@ -77,7 +78,7 @@ module _ (f : Feed) (F : IsFeed f) where
       ⊎_elim
       (λ (s : c ≡ d). s)
       (λ o. ⊎_elim (λ g. absurd (g u.0 u.1)) (λ g. absurd (g (sym u.0) (sym u.1))) o)
-      (pairs_two (λ (x y : Change). x.tx ≡ y.tx → x.row ≢ y.row) f.wanted (pairs_of (λ (x y : Change). x.tx ≡ y.tx → x.row ≢ y.row) f.wanted F.names) c d i j)
+      (pairs_two (λ (x y : Change). x.tx ≡ y.tx → x.row ≢ y.row) f.wanted (pairs_from (λ (x y : Change). x.tx ≡ y.tx → x.row ≢ y.row) f.wanted F.names) c d i j)
 
   not_same : (c d : Change) → Contains f.wanted c → Contains f.wanted d → c ≢ d → is_same c d ≡ false
   not_same c d i j n = false_from_ne_true (is_same c d) (λ h. n (same_is c d i j h))
@@ -120,7 +121,7 @@ module _ (f : Feed) (q : Part) (r e : ℕ) (known : Known) where
     fresh_batch cs n kids ending F ends children once =
         record {
           start = start;
-          order = all_pairs (λ (c d : Change). (c ≢ d) × (c.stamp ≤ d.stamp)) (fresh known cs) (pairs_filter (λ (c d : Change). (c ≢ d) × (c.stamp ≤ d.stamp)) (λ c. not (is_known known c)) cs F.order);
+          order = pairs_to (λ (c d : Change). (c ≢ d) × (c.stamp ≤ d.stamp)) (fresh known cs) (pairs_filter (λ (c d : Change). (c ≢ d) × (c.stamp ≤ d.stamp)) (λ c. not (is_known known c)) cs F.order);
           wanted = λ c i.
               let u = from_filter (λ x. not (is_known known x)) c cs i in
               let w = F.wanted c u.0 in
@@ -130,7 +131,7 @@ module _ (f : Feed) (q : Part) (r e : ℕ) (known : Known) where
           bound = F.top;
           ended = ends;
           children = children;
-          once = all_pairs (λ (x y : NewChild). x.token ≢ y.token) kids once;
+          once = pairs_to (λ (x y : NewChild). x.token ≢ y.token) kids once;
         }
       where
         by : (c : Change) (b : Bool) → is_known known c ≡ b → Contains cs c ⊎ (c.stamp ≤ known.through) → Contains (fresh known cs) c ⊎ (is_known known c ≡ true)
@@ -149,7 +150,7 @@ module _ (f : Feed) (q : Part) (r e : ℕ) (known : Known) where
     with_data item D some =
         record {
           order = pairs_append (λ (c d : Change). (c ≢ d) × (c.stamp ≤ d.stamp)) (changes done) (changes_told item) F.order
-              (pairs_weaker (λ (c d : Change). c ≢ d) (λ (c d : Change). (c ≢ d) × (c.stamp ≤ d.stamp)) (changes_told item) (λ c d i j h. (h, let a = its_stamp item c i in let b = its_stamp item d j in omega (arith, a, b))) (pairs_of (λ (c d : Change). c ≢ d) (changes_told item) D.once))
+              (pairs_weaker (λ (c d : Change). c ≢ d) (λ (c d : Change). (c ≢ d) × (c.stamp ≤ d.stamp)) (changes_told item) (λ c d i j h. (h, let a = its_stamp item c i in let b = its_stamp item d j in omega (arith, a, b))) (pairs_from (λ (c d : Change). c ≢ d) (changes_told item) D.once))
               (λ c d i j. (λ h. D.new d j (subst (λ z. Contains (changes done) z) h i), let a = D.order c i in let b = its_stamp item d j in omega (arith, a, b)));
           wanted = λ c i. ⊎_elim
               (λ (j : Contains (changes done) c). let w = F.wanted c j in (w.0, w.1, omega (arith, w.2), w.3))

@@ -3,6 +3,7 @@ use Rattle.std.proofs.Common.{◌≡◌, ◌≢◌, ◌↔◌, ℕ, ◌≤◌, t
 use Rattle.std.specs.Prelude.{AllPairs}
 use Rattle.std.proofs.lemmas.Bool.{lt-ltb, eq-eqb, and_from, not_from_true}
 use Rattle.cs_types.specs.declared.change.Change.{Change}
+use Rattle.cs_types.specs.Members.{in_nil, in_head, in_tail, pairs_to, pairs_from, from_flat, from_map}
 use Rattle.cs_records.specs.declared.records.Child.{Child}
 use Rattle.cs_records.specs.declared.records.ChildRecord.{ChildRecord}
 use Rattle.cs_records.specs.declared.records.Record.{Record}
@@ -24,7 +25,7 @@ use Rattle.cs_fetch.specs.Keeping.{has_new_child, is_listed, keep, keep_children
 use Rattle.cs_link.specs.Reading.{changes_in, children_in, new_child, changes, children}
 use Rattle.cs_fetch.specs.SoFar.{marks_of, so_far, adds}
 use Rattle.cs_fetch.proofs.Reached.{marks_more}
-use Rattle.cs_fetch.proofs.Lists.{in_nil, in_head, in_tail, from_flat, from_map, some_any, pairs_of, all_pairs, more, place}
+use Rattle.cs_fetch.proofs.Lists.{some_any, more, place}
 use Rattle.cs_fetch.proofs.Marking.{Tell, tell_none, tell_list}
 use Rattle.cs_fetch.proofs.Kids.{Apart, apart_listed, all_apart, all_kept, not_listed, few_kids}
 use Rattle.cs_fetch.proofs.Past.{or_none, map_none, only_none}
@@ -63,7 +64,7 @@ module _ (f : Feed) (F : IsFeed f) (args : ReadArgs) (late : f.created ≤ args.
     where
       by : MayOpen f r done item → Apart (map (new_child item.start) item.children) × ((a b : NewChild) → Contains (children done) a → Contains (map (new_child item.start) item.children) b → a.token ≢ b.token)
       by D = (
-        apart_listed item.start item.children (pairs_of (λ (x y : Child). x.token ≢ y.token) item.children D.once),
+        apart_listed item.start item.children (pairs_from (λ (x y : Child). x.token ≢ y.token) item.children D.once),
         λ a b i j. let u = from_map (new_child item.start) b item.children j in λ g. D.new u.0 a u.1 i (g ∙ ap (λ (z : NewChild). z.token) u.2),
       )
 
@@ -105,7 +106,7 @@ module _ (f : Feed) (F : IsFeed f) (args : ReadArgs) (late : f.created ≤ args.
     few : (item : ChildRecord) → MayOpen f r done item → too_many (with_children (keep_children [] (children done)) item) ≡ None
     few item D =
         ap (λ z. too_many (with_children z item)) each_once
-        ∙ few_kids f.parts F.few_parts (children done) (map (new_child item.start) item.children) apart_all (apart_listed item.start item.children (pairs_of (λ (x y : Child). x.token ≢ y.token) item.children D.once))
+        ∙ few_kids f.parts F.few_parts (children done) (map (new_child item.start) item.children) apart_all (apart_listed item.start item.children (pairs_from (λ (x y : Child). x.token ≢ y.token) item.children D.once))
         (λ a b i j. let u = from_map (new_child item.start) b item.children j in λ g. D.new u.0 a u.1 i (g ∙ ap (λ (z : NewChild). z.token) u.2))
         (λ b i. let v = is_first b i in (v.part, v.live.there, sym (ap (λ (z : NewChild). z.token) v.same)))
         (λ b j. let u = from_map (new_child item.start) b item.children j in let v = D.child u.0 u.1 in (v.part.0, v.part.1.there, v.part.2 ∙ sym (ap (λ (z : NewChild). z.token) u.2)))
@@ -151,7 +152,7 @@ module _ (f : Feed) (F : IsFeed f) (args : ReadArgs) (late : f.created ≤ args.
                   let w : b.0 ≡ x = v.same ∙ ap (λ (z : List ℕ). record { token = z; parents = []; start = r }) t ∙ sym h.same in
                   subst (λ z. Contains (children done) z) w b.1,
             );
-            once = subst (λ z. AllPairs (λ x y. x.token ≢ y.token) z) (sym each_once) (all_pairs (λ (x y : NewChild). x.token ≢ y.token) (children done) apart_all);
+            once = subst (λ z. AllPairs (λ x y. x.token ≢ y.token) z) (sym each_once) (pairs_to (λ (x y : NewChild). x.token ≢ y.token) (children done) apart_all);
           }
 
       end_right : end_breach args known (so_far known done) Closing.Finished ≡ None

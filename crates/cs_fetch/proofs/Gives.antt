@@ -4,6 +4,7 @@ use Rattle.std.proofs.lemmas.Bool.{cases_lt, le-leb, le-ltb, lt-ltb, eq-eqb, eqb
 use Rattle.std.proofs.lemmas.List.{length-append}
 use Rattle.std.proofs.lemmas.List.Elements.{filter-append}
 use Rattle.cs_types.specs.declared.change.Change.{Change}
+use Rattle.cs_types.specs.Members.{in_nil, in_head, in_tail, from_filter, pairs_weaker}
 use Rattle.cs_place.specs.declared.part.Part.{Part}
 use Rattle.cs_records.specs.declared.records.Child.{Child}
 use Rattle.cs_records.specs.declared.records.ChildRecord.{ChildRecord}
@@ -30,7 +31,7 @@ use Rattle.cs_fetch.specs.Keeping.{dated, dated_cmp, is_new, has_new, has_new_ch
 use Rattle.cs_link.specs.Reading.{end_of, changes_in, changes, children}
 use Rattle.cs_fetch.specs.SoFar.{marked, marks_of, so_far, adds}
 use Rattle.cs_fetch.proofs.Reached.{changes_more, marks_more}
-use Rattle.cs_fetch.proofs.Lists.{in_nil, in_head, in_tail, none_of, some_of, from_filter, pairs_weaker, more}
+use Rattle.cs_fetch.proofs.Lists.{none_of, some_of, more}
 use Rattle.cs_fetch.proofs.Marking.{is_at, count_of, From, Tell, tell_none, tell_data, tell_beat, tell_list, from_more}
 use Rattle.cs_fetch.proofs.Faithful.{limit_both, Facts, faithful, with_data, through, its_stamp, new_is_fresh, same_is}
 use Rattle.cs_fetch.proofs.Kids.{IsAccepted, not_listed, is_child, ends, all_children, each_once, are_apart}

@@ -4,6 +4,7 @@ use Rattle.std.specs.Option.{option_or}
 use Rattle.std.proofs.lemmas.Bool.{ltb-true, ltb-false, leb-false, leb-true, eqb-true, or_parts, or_cases, and_parts}
 use Rattle.std.proofs.lemmas.List.Elements.{Contains-append_left, Contains-append_right}
 use Rattle.cs_types.specs.declared.change.Change.{Change}
+use Rattle.cs_types.specs.Members.{in_nil, in_head, in_cons}
 use Rattle.cs_place.specs.declared.part.Part.{Part}
 use Rattle.cs_records.specs.declared.records.DataRecord.{DataRecord}
 use Rattle.cs_records.specs.declared.records.Record.{Record}
@@ -30,7 +31,7 @@ use Rattle.cs_link.specs.Refusal.{IsRefusedBy}
 use Rattle.cs_fetch.specs.SoFar.{so_far, adds, with_record}
 use Rattle.cs_fetch.proofs.Faithful.{its_stamp, not_true}
 use Rattle.cs_fetch.proofs.Lawful.{there}
-use Rattle.cs_fetch.proofs.Lists.{in_nil, in_head, in_cons, some_of, place}
+use Rattle.cs_fetch.proofs.Lists.{some_of, place}
 use Rattle.cs_fetch.proofs.Past.{some_change}
 use Rattle.cs_fetch.proofs.Walking.{Lasts, walks}
 

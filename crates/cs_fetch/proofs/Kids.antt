@@ -9,6 +9,7 @@ use Rattle.std.proofs.lemmas.Bool.{cases_lt, le-ltb}
 use Rattle.std.proofs.lemmas.List.{length-map}
 use Rattle.std.proofs.lemmas.List.Elements.{Contains-append_cases}
 use Rattle.std.proofs.lemmas.Map.Lookups.{exact_bytes}
+use Rattle.cs_types.specs.Members.{Pairwise, in_nil, in_head, in_tail, in_cons, snoc_append, pairs_from, pairs_append, pairs_two, from_flat, in_map, from_map}
 use Rattle.cs_place.specs.declared.place.Place.{Place}
 use Rattle.cs_place.specs.declared.part.Part.{Part}
 use Rattle.cs_place.specs.Part.{IsInRange, IsBefore, Holds}
@@ -27,7 +28,7 @@ use Rattle.cs_link.specs.Honest.{Follows, IsChildOf, MayList, MayFinish, MayFoll
 use Rattle.cs_fetch.specs.Keeping.{parents_of, keep_children}
 use Rattle.cs_link.specs.Reading.{children_in, new_child, children}
 use Rattle.cs_fetch.proofs.Reached.{children_more}
-use Rattle.cs_fetch.proofs.Lists.{Pairwise, in_nil, in_head, in_tail, in_cons, from_flat, from_map, in_map, no_longer, pairs_of, pairs_two, pairs_append, snoc_append, place}
+use Rattle.cs_fetch.proofs.Lists.{no_longer, place}
 
 -- what an accepted READ of a part asks for
 pub record IsAccepted (f : Feed) (q : Part) (r e m : ℕ) : Type 0 where
@@ -145,7 +146,7 @@ module _ (f : Feed) (F : IsFeed f) where
       ⊎_elim
       (λ (s : a ≡ b). s)
       (λ (r : (a.token ≢ b.token) ⊎ (b.token ≢ a.token)). ⊎_elim (λ (n : a.token ≢ b.token). absurd (n e)) (λ (n : b.token ≢ a.token). absurd (n (sym e))) r)
-      (pairs_two (λ (x y : Part). x.token ≢ y.token) f.parts (pairs_of (λ (x y : Part). x.token ≢ y.token) f.parts F.layout.tokens) a b i j)
+      (pairs_two (λ (x y : Part). x.token ≢ y.token) f.parts (pairs_from (λ (x y : Part). x.token ≢ y.token) f.parts F.layout.tokens) a b i j)
 
   same_holder : (a b : Part) (p : Place) (t : ℕ) → f.created ≤ t → Contains f.parts a → Contains f.parts b → Holds a p t → Holds b p t → a ≡ b
   same_holder a b p t l i j h k =
@@ -206,7 +207,7 @@ module _ (f : Feed) (F : IsFeed f) where
       where
         by : MayList f q r e m done item → Apart (map (new_child item.start) item.children) × ((a b : NewChild) → Contains (children done) a → Contains (map (new_child item.start) item.children) b → a.token ≢ b.token)
         by D = (
-          apart_listed item.start item.children (pairs_of (λ (x y : Child). x.token ≢ y.token) item.children D.once),
+          apart_listed item.start item.children (pairs_from (λ (x y : Child). x.token ≢ y.token) item.children D.once),
           λ a b i j. let u = from_map (new_child item.start) b item.children j in λ g. D.new u.0 a u.1 i (g ∙ ap (λ (z : NewChild). z.token) u.2),
         )
 
@@ -261,7 +262,7 @@ module _ (f : Feed) (F : IsFeed f) where
 
       pub few_listed : (item : ChildRecord) → MayList f q r e m done item → too_many (with_children (children done) item) ≡ None
       few_listed item D =
-          few_kids f.parts F.few_parts (children done) (map (new_child item.start) item.children) are_apart (apart_listed item.start item.children (pairs_of (λ (x y : Child). x.token ≢ y.token) item.children D.once))
+          few_kids f.parts F.few_parts (children done) (map (new_child item.start) item.children) are_apart (apart_listed item.start item.children (pairs_from (λ (x y : Child). x.token ≢ y.token) item.children D.once))
           (λ a b i j. let u = from_map (new_child item.start) b item.children j in λ g. D.new u.0 a u.1 i (g ∙ ap (λ (z : NewChild). z.token) u.2))
           (λ b i. let c = is_child b i in (c.child, c.there, sym (ap (λ (z : NewChild). z.token) c.same)))
           (λ b j. let u = from_map (new_child item.start) b item.children j in let c = D.child u.0 u.1 in (c.part.0, c.part.1, c.part.2 ∙ sym (ap (λ (z : NewChild). z.token) u.2)))

@@ -4,6 +4,7 @@ use Rattle.std.specs.Option.{option_or}
 use Rattle.std.proofs.lemmas.Bool.{cases_lt, eqb-true}
 use Rattle.std.proofs.lemmas.List.{length-append}
 use Rattle.std.proofs.lemmas.List.Elements.{Contains-append_left, Contains-append_right, filter-append}
+use Rattle.cs_types.specs.Members.{in_head}
 use Rattle.cs_records.specs.declared.records.ChildRecord.{ChildRecord}
 use Rattle.cs_records.specs.declared.records.DataRecord.{DataRecord}
 use Rattle.cs_records.specs.declared.records.Record.{Record}
@@ -13,7 +14,6 @@ use Rattle.cs_fetch.specs.declared.so_far.Marks.{Marks}
 use Rattle.cs_link.specs.Causes.{one_more}
 use Rattle.cs_link.specs.Reading.{is_children, child_records}
 use Rattle.cs_fetch.specs.SoFar.{count_at, with_data, with_beat, with_list, marked, unmarked}
-use Rattle.cs_fetch.proofs.Lists.{in_head}
 
 -- a data record of this stamp
 abbrev pub is_at : ℕ → Step → Bool

@@ -9,6 +9,7 @@ use Rattle.std.proofs.lemmas.List.{length-append}
 use Rattle.std.proofs.lemmas.List.Elements.{Contains-append_left, Contains-append_cases, filter-append}
 use Rattle.std.proofs.lemmas.Grind.{flat_map-append}
 use Rattle.cs_types.specs.declared.change.Change.{Change}
+use Rattle.cs_types.specs.Members.{Pairwise, in_nil, in_head, in_tail, in_cons, in_filter, from_filter, pairs_from, pairs_filter, pairs_weaker, in_flat, from_flat}
 use Rattle.cs_place.specs.declared.part.Part.{Part}
 use Rattle.cs_place.specs.Part.{IsBefore, is_held}
 use Rattle.cs_place.specs.Held.{held_is}
@@ -33,7 +34,7 @@ use Rattle.cs_link.specs.Honest.{HaveNo, Follows, HasAllBelow, MayTell, MayBeat,
 use Rattle.cs_fetch.specs.Keeping.{parents_of}
 use Rattle.cs_link.specs.Reading.{end_of, changes_in, changes, children, is_children, new_child}
 use Rattle.cs_fetch.specs.SoFar.{count_at}
-use Rattle.cs_fetch.proofs.Lists.{Pairwise, in_nil, in_head, in_tail, in_cons, in_flat, from_flat, in_filter, from_filter, pairs_filter, pairs_weaker, pairs_of, no_longer, some_any, place}
+use Rattle.cs_fetch.proofs.Lists.{no_longer, some_any, place}
 use Rattle.cs_fetch.proofs.Marking.{is_at, count_of, Tell}
 use Rattle.cs_fetch.proofs.Faithful.{Facts, its_stamp}
 use Rattle.cs_fetch.proofs.Kids.{IsAccepted, not_listed, few_listed}
@@ -218,7 +219,7 @@ module _ (f : Feed) (F : IsFeed f) (q : Part) (r e m : ℕ) (A : IsAccepted f q 
         or_none _ _ (map_none (Breach.ChildStart item.start) (start_offends args s.marks args.token item.start) (ap (λ z. start_offends args s.marks z item.start) token ∙ ap (λ z. part_start_offends args z item.start) sm ∙ starts))
         (or_none (children_breach args.token (first_differing s.children item.start item.children) item.children) (too_many (with_children s.children item))
         (ap (λ z. children_breach z (first_differing s.children item.start item.children) item.children) token
-        ∙ or_none _ _ (map_none (λ token. Breach.ChildDiffers token token) (first_differing s.children item.start item.children) (ap (λ z. first_differing z item.start item.children) sc ∙ no_difference item.start (children done) item.children D.new (pairs_of (λ (x y : Child). x.token ≢ y.token) item.children D.once)))
+        ∙ or_none _ _ (map_none (λ token. Breach.ChildDiffers token token) (first_differing s.children item.start item.children) (ap (λ z. first_differing z item.start item.children) sc ∙ no_difference item.start (children done) item.children D.new (pairs_from (λ (x y : Child). x.token ≢ y.token) item.children D.once)))
         (map_none (λ token. Breach.ParentMissing token q.token) (first_without q.token item.children) (all_named q.token item.children (λ x i. (D.child x i).parent))))
         (ap (λ z. too_many (with_children z item)) sc ∙ few_listed f F q r e m A done H item D))
       where

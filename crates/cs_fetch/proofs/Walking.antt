@@ -1,5 +1,6 @@
 -- What holds of the batch of every list of steps, since it lasts from step to step.
 use Rattle.std.proofs.Common.{◌≡◌, Bool, true, false, cond, List, [], ◌∷◌, ◌++◌, Option, Some, None, refl, sym, subst, leb, Contains}
+use Rattle.cs_types.specs.Members.{in_head, in_tail}
 use Rattle.cs_records.specs.declared.records.Record.{Record}
 use Rattle.cs_link.specs.declared.batch.Batch.{Batch}
 use Rattle.cs_link.specs.declared.batch.Known.{Known}
@@ -14,7 +15,6 @@ use Rattle.cs_fetch.specs.Breach.{record_breach, end_breach}
 use Rattle.cs_link.specs.Causes.{one_more}
 use Rattle.cs_fetch.specs.Fetch.{counted_in, idled, is_full, none_counted, Gives, Stalls, IfGives, or_breaks, closed_by, filled, outcome_behind, outcome_of}
 use Rattle.cs_fetch.specs.SoFar.{so_far, adds, with_record}
-use Rattle.cs_fetch.proofs.Lists.{in_head, in_tail}
 use Rattle.cs_fetch.proofs.Reached.{so_far_more}
 
 -- steps that may be so keep P, and with P a batch is of this kind

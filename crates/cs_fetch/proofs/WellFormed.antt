@@ -7,6 +7,7 @@ use Rattle.std.specs.Ordering.{nat_cmp}
 use Rattle.std.proofs.lemmas.Bool.{leb-false, ltb-false, or_parts, eqb-true}
 use Rattle.std.proofs.lemmas.List.Elements.{Contains-append_cases}
 use Rattle.cs_types.specs.declared.change.Change.{Change}
+use Rattle.cs_types.specs.Members.{Pairwise, in_nil, in_head, in_tail, in_cons, pairs_to, pairs_append, from_map}
 use Rattle.cs_records.specs.declared.records.Child.{Child}
 use Rattle.cs_records.specs.declared.records.ChildRecord.{ChildRecord}
 use Rattle.cs_records.specs.declared.records.DataRecord.{DataRecord}
@@ -33,7 +34,6 @@ use Rattle.cs_link.specs.Reading.{end_of, new_child}
 use Rattle.cs_fetch.specs.SoFar.{so_far, with_record}
 use Rattle.cs_fetch.proofs.Faithful.{its_stamp, not_true}
 use Rattle.cs_fetch.proofs.Kids.{Apart}
-use Rattle.cs_fetch.proofs.Lists.{Pairwise, in_nil, in_head, in_tail, in_cons, pairs_append, all_pairs, from_map}
 use Rattle.cs_fetch.proofs.Walking.{Lasts, walks}
 
 -- ---- nothing among options
@@ -313,12 +313,12 @@ module _ (args : ReadArgs) (known : Known) (first : args.token ≡ None → args
         record {
           token = refl;
           start = refl;
-          order = all_pairs (λ (c d : Change). c.stamp ≤ d.stamp) s.changes D.order;
+          order = pairs_to (λ (c d : Change). c.stamp ≤ d.stamp) s.changes D.order;
           top = λ c i. let z = D.top c i in let y = z.0 in (omega (arith, y, up), z.1, z.2);
           rises = let r = D.rises in omega (arith, r, up);
           within = down;
           starts = λ x i. absurd (in_nil x i);
-          once = all_pairs (λ (x y : NewChild). x.token ≢ y.token) [] tt;
+          once = pairs_to (λ (x y : NewChild). x.token ≢ y.token) [] tt;
           few = omega arith;
           shape = by args.token refl;
         }
@@ -341,12 +341,12 @@ module _ (args : ReadArgs) (known : Known) (first : args.token ≡ None → args
         record {
           token = refl;
           start = refl;
-          order = all_pairs (λ (c d : Change). c.stamp ≤ d.stamp) s.changes D.order;
+          order = pairs_to (λ (c d : Change). c.stamp ≤ d.stamp) s.changes D.order;
           top = λ c i. let z = D.top c i in let y = z.0 in (omega (arith, y), z.1, z.2);
           rises = let r = D.rises in omega (arith, r);
           within = let r = D.within in omega (arith, r, f);
           starts = D.starts;
-          once = all_pairs (λ (x y : NewChild). x.token ≢ y.token) s.children D.once;
+          once = pairs_to (λ (x y : NewChild). x.token ≢ y.token) s.children D.once;
           few = D.few;
           shape = by args.token refl w;
         }
