@@ -15,6 +15,7 @@ use Rattle.cs_types.specs.Cells.{AreCells}
 use Rattle.cs_types.specs.Database.{AreInRange}
 use Rattle.cs_types.specs.Names.{is_same, is_among, columns_of}
 use Rattle.cs_types.specs.Value.{IsOfType, IsInRange}
+use Rattle.cs_types.specs.Members.{Pairwise, in_nil, in_head, in_tail, in_cons, pairs_to, pairs_from}
 use Rattle.cs_schema.specs.declared.types.Column.{Column}
 use Rattle.cs_schema.specs.declared.types.Table.{Table}
 use Rattle.cs_schema.specs.declared.types.Stream.{Stream}
@@ -26,7 +27,6 @@ use Rattle.cs_txn.specs.declared.txn.Modification.{Modification}
 use Rattle.cs_txn.specs.Columns.{column_named, is_of, is_null}
 use Rattle.cs_txn.specs.Fits.{may_have, FitsColumn, HasRows, FitsCatalog}
 use Rattle.cs_capture.specs.Captured.{columns_in}
-use Rattle.cs_capture.proofs.Members.{in_nil, in_head, in_tail, in_cons, Pairwise, pairs_from, pairs_to}
 use Rattle.cs_capture.proofs.SameNames.{same_is}
 
 -- the cell is of one of the columns, and NULL or of its type

@@ -6,6 +6,7 @@ use Rattle.cs_types.specs.declared.cells.Cell.{Cell}
 use Rattle.cs_types.specs.declared.change.Change.{Change}
 use Rattle.cs_types.specs.Names.{is_among, columns_of}
 use Rattle.cs_types.specs.Value.{IsOfType}
+use Rattle.cs_types.specs.Members.{all_in, pairs_to}
 use Rattle.cs_records.specs.declared.captured.Captured.{Captured}
 use Rattle.cs_records.specs.declared.captured.ColumnInfo.{ColumnInfo}
 use Rattle.cs_records.specs.Group.{Agree, HasItsColumns}
@@ -20,7 +21,6 @@ use Rattle.cs_capture.specs.Captured.{columns_in, captured}
 use Rattle.cs_capture.specs.Types.{HasItsType, AreOfTheirTypes}
 use Rattle.cs_capture.proofs.ToldColumns.{IsOf, is_of, info_is, each_name, marked, one_told, typed_as_told, names_differ, key_cells, new_cells, old_cells, IsInfo}
 use Rattle.cs_capture.proofs.Fitting.{IsOfColumn, IsOfTable, of_table}
-use Rattle.cs_capture.proofs.Members.{all_in, pairs_to}
 use Rattle.cs_capture.proofs.Ordinals.{rising}
 use Rattle.cs_capture.proofs.SameNames.{columns_are, among_in, in_among, same_sorted}
 

@@ -11,6 +11,7 @@ use Rattle.cs_types.specs.Change.{wanted_changes}
 use Rattle.cs_types.specs.Database.{IsName, AreOfOneType, AgreeInTypes, AreChangesOfOneDatabase}
 use Rattle.cs_types.specs.Stamp.{IsStamp}
 use Rattle.cs_types.specs.Value.{IsInRange, IsOfType}
+use Rattle.cs_types.specs.Members.{Pairwise, in_nil, in_head, in_tail, in_cons, from_filter, all_in, pairs_to, pairs_filter}
 use Rattle.cs_schema.specs.declared.types.Column.{Column}
 use Rattle.cs_schema.specs.declared.types.Table.{Table}
 use Rattle.cs_schema.specs.declared.types.Stream.{Stream}
@@ -26,7 +27,7 @@ use Rattle.cs_capture.specs.Wanted.{captured_changes}
 use Rattle.cs_capture.proofs.ToldColumns.{one_column}
 use Rattle.cs_capture.proofs.Fitting.{IsOfColumn, IsOfTable, of_table, named_table}
 use Rattle.cs_capture.proofs.Grouped.{same_key}
-use Rattle.cs_capture.proofs.Members.{in_nil, in_head, in_tail, in_cons, all_in, Pairwise, pairs_to, pairs_filter, pairs_of_members, from_filter}
+use Rattle.cs_capture.proofs.Members.{pairs_of_members}
 use Rattle.cs_capture.proofs.Order.{Later, in_order}
 use Rattle.cs_capture.proofs.Transactions.{all_fit}
 
@@ -172,7 +173,7 @@ module _ (tables : List Table) (streams : List Stream) (s : Stream) (ms : List M
   stamped c i = stamp_between start end c.stamp from_start to_end (All-contains (λ (x : Change). is_in_range start end x.stamp ≡ true) wanted c (filter_passes (λ (x : Change). is_in_range start end x.stamp) (captured_changes tables s ms)) i)
 
   from_history : (c : Change) → Contains wanted c → Source tables s ms c
-  from_history c i = source tables s ms c (from_filter (λ (x : Change). is_in_range start end x.stamp) c (captured_changes tables s ms) i)
+  from_history c i = source tables s ms c (from_filter (λ (x : Change). is_in_range start end x.stamp) c (captured_changes tables s ms) i).0
 
   two : (c d : Change) → Contains wanted c → Contains wanted d → AreChangesOfOneDatabase c d
   two c d i j =

@@ -6,9 +6,9 @@ use Rattle.std.proofs.lemmas.List.Elements.{Contains-append_cases}
 use Rattle.cs_types.specs.declared.change.RowName.{RowName}
 use Rattle.cs_types.specs.Names.{is_same}
 use Rattle.cs_types.specs.Row.{same_row, rows_total}
+use Rattle.cs_types.specs.Members.{Pairwise, in_nil, in_head, in_tail, in_cons, pairs_append}
 use Rattle.cs_txn.specs.declared.txn.Modification.{Modification}
 use Rattle.cs_txn.specs.History.{is_used, stamp_behind, last_stamp, id_behind, tag_behind, wrote_at, Follows, EachFollows, IsHistory}
-use Rattle.cs_capture.proofs.Members.{in_nil, in_head, in_tail, in_cons, Pairwise, pairs_append}
 use Rattle.cs_capture.proofs.SameNames.{same_itself}
 
 abbrev pub Later : Modification → Modification → Type 0

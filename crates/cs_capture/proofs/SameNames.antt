@@ -11,7 +11,7 @@ use Rattle.std.proofs.lemmas.Cmp.{tied_itself}
 use Rattle.std.proofs.lemmas.Map.Lookups.{exact_bytes}
 use Rattle.cs_types.specs.declared.cells.Cell.{Cell}
 use Rattle.cs_types.specs.Names.{is_same, is_among, columns_of}
-use Rattle.cs_capture.proofs.Members.{in_nil, in_head, in_tail, in_cons, in_map, from_map}
+use Rattle.cs_types.specs.Members.{in_nil, in_head, in_tail, in_cons, in_map, from_map}
 
 pub same_is : (a b : List ℕ) → is_same a b ≡ true → a ≡ b
 same_is a b e = exact_bytes a b ((Equal-is (slice_cmp nat_cmp a b)).0 e)

@@ -8,6 +8,7 @@ use Rattle.cs_types.specs.declared.cells.Cell.{Cell}
 use Rattle.cs_types.specs.declared.change.Change.{Change}
 use Rattle.cs_types.specs.Names.{is_among, columns_of}
 use Rattle.cs_types.specs.Value.{IsOfType}
+use Rattle.cs_types.specs.Members.{Pairwise, in_nil, in_cons, pairs_from, pairs_two, in_map}
 use Rattle.cs_records.specs.declared.captured.Captured.{Captured}
 use Rattle.cs_records.specs.declared.captured.ColumnInfo.{ColumnInfo}
 use Rattle.cs_schema.specs.declared.types.Column.{Column}
@@ -20,7 +21,6 @@ use Rattle.cs_capture.specs.Captured.{told_columns, is_told, is_captured, change
 use Rattle.cs_capture.proofs.Fitting.{IsOfColumn, IsOfTable}
 use Rattle.cs_capture.specs.Table.{told_by}
 use Rattle.cs_capture.proofs.Listed.{told}
-use Rattle.cs_capture.proofs.Members.{in_nil, in_cons, in_map, Pairwise, pairs_from, pairs_two}
 use Rattle.cs_capture.proofs.SameNames.{among_in, in_among, column_in, both_ways}
 
 -- ---- the change

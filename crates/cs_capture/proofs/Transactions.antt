@@ -1,5 +1,6 @@
 -- What is captured over a history: each modification fits the catalog, and the captured changes of one transaction agree.
 use Rattle.std.proofs.Common.{◌≡◌, List, [], ◌∷◌, ◌++◌, Some, ⊎_elim, sym, subst, Contains, All}
+use Rattle.cs_types.specs.Members.{in_nil, in_cons, all_in}
 use Rattle.cs_records.specs.declared.captured.Captured.{Captured}
 use Rattle.cs_records.specs.Group.{Agree}
 use Rattle.cs_schema.specs.declared.types.Table.{Table}
@@ -10,7 +11,6 @@ use Rattle.cs_txn.specs.Fits.{FitsCatalog, EachFits, IsHistoryOf}
 use Rattle.cs_txn.specs.History.{IsHistory}
 use Rattle.cs_capture.specs.Captured.{captured}
 use Rattle.cs_capture.proofs.Grouped.{agree}
-use Rattle.cs_capture.proofs.Members.{in_nil, in_cons, all_in}
 use Rattle.cs_capture.proofs.Order.{in_order}
 
 each_fits : (tables : List Table) (earlier ms : List Modification) → EachFits tables earlier ms → (m : Modification) → Contains ms m → FitsCatalog tables m
