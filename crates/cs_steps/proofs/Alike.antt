@@ -13,13 +13,12 @@ use Rattle.cs_records.specs.declared.captured.Captured.{Captured}
 use Rattle.cs_records.specs.declared.records.DataRecord.{DataRecord}
 use Rattle.cs_records.specs.declared.records.Mod.{Mod}
 use Rattle.cs_types.specs.Names.{columns_of}
+use Rattle.cs_types.specs.Members.{bytes_same, Pairwise, in_head, in_tail}
 use Rattle.cs_records.specs.Group.{Agree, HasItsColumns, IsAlike, IsRun as IsRunOf, record_of as cut_record}
 use Rattle.cs_records.specs.Told.{changes_told, record_fault}
 use Rattle.cs_steps.proofs.Premises.{RunsTell}
-use Rattle.cs_steps.proofs.Pairs.{Pairwise}
 use Rattle.cs_steps.specs.Cutting.{first_is}
 use Rattle.cs_steps.specs.Records.{kind_number, same_names, is_alike, Count, record_of, told_as}
-use Rattle.cs_steps.proofs.Tools.{in_head, in_tail, bytes_same}
 
 kinds_same : (a b : Kind) → (kind_number a == kind_number b) ≡ true → a ≡ b
 kinds_same Insert Insert h = refl

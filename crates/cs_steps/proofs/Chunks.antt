@@ -3,9 +3,9 @@ use Rattle.std.proofs.Common.{◌≡◌, ℕ, zero, suc, ◌+◌, ◌*◌, ◌<�
 use Rattle.std.proofs.Math.Nat.{mul-suc}
 use Rattle.std.proofs.lemmas.Bool.{ltb-true, ltb-false, cases_lt}
 use Rattle.std.proofs.lemmas.List.{drop-drop}
+use Rattle.cs_types.specs.Members.{snoc_append}
 use Rattle.cs_steps.specs.Cutting.{cut_behind, cut}
 use Rattle.cs_steps.specs.Cursor.{IsAt}
-use Rattle.cs_steps.proofs.Tools.{snoc_append}
 
 module _ {A : Type 0} where
   pub take_front : (g ys : List A) (n : ℕ) → length g ≡ n → take n (g ++ ys) ≡ g

@@ -2,6 +2,7 @@
 use Rattle.std.proofs.Common.{◌≡◌, ◌≢◌, ℕ, ◌≤◌, Bool, true, false, ◌==◌, cond, nat_le, List, [], ◌∷◌, ◌++◌, length, filter, Option, None, Some, ⊎_elim, refl, sym, ap, ◌∙◌, subst, arith, Contains}
 use Rattle.std.specs.List.{cons_option}
 use Rattle.std.proofs.lemmas.Bool.{leb-true}
+use Rattle.cs_types.specs.Members.{Pairwise, in_nil, in_head, in_tail, in_cons, pairs_to}
 use Rattle.cs_records.specs.declared.captured.Captured.{Captured}
 use Rattle.cs_records.specs.Group.{Agree, HasItsColumns}
 use Rattle.cs_schema.specs.declared.types.Table.{Table}
@@ -13,9 +14,7 @@ use Rattle.cs_txn.specs.History.{IsHistory}
 use Rattle.cs_capture.specs.Captured.{captured}
 use Rattle.cs_steps.specs.Captures.{captured_since, captured_items, CapturedIsCommitted}
 use Rattle.cs_steps.proofs.Order.{Later, in_order}
-use Rattle.cs_steps.proofs.Pairs.{Pairwise, pairs_to}
 use Rattle.cs_steps.proofs.Told.{is_of}
-use Rattle.cs_steps.proofs.Tools.{in_nil, in_head, in_tail, in_cons}
 
 -- what the law on captured changes says
 pub record CanBeGrouped : Type 0 where

@@ -2,8 +2,8 @@
 use Rattle.std.proofs.Common.{◌≡◌, ℕ, ◌+◌, ◌*◌, ◌<◌, ◌≤◌, Bool, true, false, cond, nat_lt, List, [], ◌∷◌, ◌++◌, length, ⊎_elim, refl, sym, ap, ◌∙◌, subst, arith, Contains, length-append}
 use Rattle.std.proofs.lemmas.Bool.{ltb-false}
 use Rattle.std.proofs.Math.Nat.{mul-suc}
+use Rattle.cs_types.specs.Members.{in_nil, in_cons, snoc_append, in_flat}
 use Rattle.cs_steps.specs.Cutting.{cut_behind, cut, joined}
-use Rattle.cs_steps.proofs.Tools.{in_nil, in_cons, in_flat, snoc_append}
 
 module _ {A : Type 0} (takes : List A → A → Bool) where
   joined_behind : (group xs : List A) → joined (cut_behind takes group xs) ≡ group ++ xs

@@ -3,6 +3,7 @@ use Rattle.std.proofs.Common.{◌≡◌, ◌≢◌, ℕ, ◌≤◌, Bool, true, 
 use Rattle.std.specs.Int.{is_in_range}
 use Rattle.std.proofs.lemmas.Bool.{and_parts, and_from, leb-true, le-leb}
 use Rattle.cs_types.specs.declared.change.Change.{Change}
+use Rattle.cs_types.specs.Members.{in_filter, from_filter, pairs_from, pairs_filter, pairs_weaker, in_map, from_map}
 use Rattle.cs_place.specs.declared.part.Part.{Part}
 use Rattle.cs_place.specs.declared.place.Place.{Place}
 use Rattle.cs_place.specs.Part.{IsBefore, IsLive, Holds, is_held, is_live}
@@ -14,9 +15,8 @@ use Rattle.cs_steps.specs.Honest.{IsAccepted}
 use Rattle.cs_steps.specs.Records.{held}
 use Rattle.cs_steps.specs.Steps.{Asked, last_moment, top_of}
 use Rattle.cs_steps.proofs.Paced.{IsWanted}
-use Rattle.cs_steps.proofs.Pairs.{pairs_from}
 use Rattle.cs_steps.proofs.Records.{change_of}
-use Rattle.cs_steps.proofs.Tools.{in_filter, from_filter, in_map, from_map, pairs_filter, pairs_weaker, pairs_map}
+use Rattle.cs_steps.proofs.Tools.{pairs_map}
 
 pub live_from : (p : Part) (t : ℕ) → is_live p t ≡ true → IsLive p t
 live_from p t h = (live_is p t).0 h

@@ -13,7 +13,6 @@ mod Low
 mod Named
 mod Order
 mod Paced
-mod Pairs
 mod Records
 mod Refused
 mod Slices

@@ -3,6 +3,7 @@ use Rattle.std.proofs.Common.{◌≡◌, ◌≢◌, ℕ, ◌+◌, ◌*◌, ◌<�
 use Rattle.std.proofs.lemmas.Grind.{flat_map-append}
 use Rattle.std.proofs.lemmas.List.{map-append}
 use Rattle.std.proofs.lemmas.List.Elements.{filter-append, Contains-append_left, Contains-append_right}
+use Rattle.cs_types.specs.Members.{Pairwise, in_head, in_tail, pairs_right, pairs_left, pairs_across, from_map}
 use Rattle.cs_records.specs.declared.records.Child.{Child}
 use Rattle.cs_records.specs.declared.records.Record.TheVariants.{Change as Data, Heartbeat, Children}
 use Rattle.cs_link.specs.declared.batch.NewChild.{NewChild}
@@ -15,8 +16,6 @@ use Rattle.cs_steps.specs.Steps.{listed_from, child_groups, child_steps}
 use Rattle.cs_steps.specs.Cutting.{joined}
 use Rattle.cs_steps.proofs.Cuts.{whole, each, count}
 use Rattle.cs_steps.proofs.Paced.{told_more, without_more}
-use Rattle.cs_steps.proofs.Pairs.{Pairwise}
-use Rattle.cs_steps.proofs.Tools.{in_head, in_tail, from_map, pairs_left, pairs_right, pairs_across}
 
 named_more : (xs : List Step) (x : Step) → children (xs ++ x ∷ []) ≡ children xs ++ children_in x
 named_more xs x = flat_map-append children_in xs (x ∷ []) ∙ ap (λ l. children xs ++ l) (append-nil (children_in x))

@@ -1,10 +1,9 @@
 -- Parts in order of low are the same parts.
 use Rattle.std.proofs.Common.{◌≡◌, ◌⊎◌, suc, Bool, true, false, cond, List, [], ◌∷◌, length, ⊎_elim, inl, inr, refl, sym, ap, ◌∙◌, subst, Contains}
+use Rattle.cs_types.specs.Members.{Pairwise, in_nil, in_head, in_tail, in_cons}
 use Rattle.cs_place.specs.declared.part.Part.{Part}
 use Rattle.cs_place.specs.Part.{is_below}
 use Rattle.cs_steps.specs.Steps.{put_by_low, by_low}
-use Rattle.cs_steps.proofs.Pairs.{Pairwise}
-use Rattle.cs_steps.proofs.Tools.{in_nil, in_head, in_tail, in_cons}
 
 from_put : (p : Part) (ps : List Part) (x : Part) → Contains (put_by_low p ps) x → (x ≡ p) ⊎ Contains ps x
 from_put p [] x h = in_cons p x [] h

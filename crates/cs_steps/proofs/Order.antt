@@ -9,10 +9,9 @@ use Rattle.std.proofs.lemmas.List.Elements.{Contains-append_cases}
 use Rattle.cs_types.specs.declared.change.RowName.{RowName}
 use Rattle.cs_types.specs.Row.{same_row}
 use Rattle.cs_types.specs.Exact.{same_row-is}
+use Rattle.cs_types.specs.Members.{Pairwise, in_nil, in_head, in_tail, in_cons, snoc_append, pairs_append}
 use Rattle.cs_txn.specs.declared.txn.Modification.{Modification}
 use Rattle.cs_txn.specs.History.{is_used, stamp_behind, last_stamp, id_behind, wrote_at, Follows, EachFollows, IsHistory}
-use Rattle.cs_steps.proofs.Pairs.{Pairwise}
-use Rattle.cs_steps.proofs.Tools.{in_nil, in_head, in_tail, in_cons, pairs_append, snoc_append}
 
 abbrev pub Later : Modification → Modification → Type 0
 Later a b = (a.stamp ≤ b.stamp) × (a.stamp ≡ b.stamp → a.row ≢ b.row)

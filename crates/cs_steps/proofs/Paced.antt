@@ -4,6 +4,7 @@ use Rattle.std.proofs.lemmas.Grind.{flat_map-append}
 use Rattle.std.proofs.lemmas.Bool.{leb-true}
 use Rattle.std.proofs.lemmas.List.Elements.{Contains-append_left, Contains-append_right, Contains-append_cases}
 use Rattle.cs_types.specs.declared.change.Change.{Change}
+use Rattle.cs_types.specs.Members.{Pairwise, in_nil, in_head, in_tail, in_cons, pairs_to, pairs_right, pairs_left, pairs_across, pairs_weaker}
 use Rattle.cs_place.specs.declared.part.Part.{Part}
 use Rattle.cs_place.specs.Part.{IsBefore}
 use Rattle.cs_records.specs.declared.records.DataRecord.{DataRecord}
@@ -13,13 +14,11 @@ use Rattle.cs_records.specs.Told.{change_of, changes_told}
 use Rattle.cs_link.specs.declared.feed.Feed.{Feed}
 use Rattle.cs_link.specs.declared.reading.Step.{Step}
 use Rattle.cs_link.specs.declared.reading.Step.TheVariants.{Record as Given}
-use Rattle.cs_steps.proofs.Pairs.{Pairwise, pairs_to}
 use Rattle.cs_link.specs.Feed.{IsOf}
 use Rattle.cs_link.specs.Reading.{changes_in, is_children, is_closing, changes}
 use Rattle.cs_link.specs.Honest.{HaveNo, Follows, HasAllBelow, MayFollow}
 use Rattle.cs_steps.specs.Steps.{paced}
 use Rattle.cs_steps.proofs.Alike.{IsSound}
-use Rattle.cs_steps.proofs.Tools.{in_nil, in_head, in_tail, in_cons, pairs_left, pairs_right, pairs_across, pairs_weaker}
 
 -- a change that a record tells has its stamp
 pub of_stamp : (d : DataRecord) (c : Change) → Contains (changes_told d) c → c.stamp ≡ d.stamp

@@ -4,18 +4,17 @@ use Rattle.std.proofs.lemmas.Grind.{flat_map-append}
 use Rattle.std.proofs.lemmas.List.{map-append}
 use Rattle.std.proofs.lemmas.List.Elements.{filter-append, Contains-append_cases}
 use Rattle.cs_types.specs.declared.change.Change.{Change}
+use Rattle.cs_types.specs.Members.{bytes_same, Pairwise, in_nil, in_head, in_tail, in_cons, from_filter, pairs_right, pairs_left, pairs_filter, pairs_weaker, from_flat}
 use Rattle.cs_place.specs.declared.part.Part.{Part}
 use Rattle.cs_records.specs.declared.captured.Captured.{Captured}
 use Rattle.cs_records.specs.declared.records.DataRecord.{DataRecord}
 use Rattle.cs_records.specs.Group.{Agree, HasItsColumns}
 use Rattle.cs_records.specs.Told.{changes_told}
 use Rattle.cs_steps.proofs.Premises.{RunsTell}
-use Rattle.cs_steps.proofs.Pairs.{Pairwise}
 use Rattle.cs_steps.specs.Cutting.{joined, first_is}
 use Rattle.cs_place.specs.Part.{is_held}
 use Rattle.cs_link.specs.Feed.{place_of}
 use Rattle.cs_steps.specs.Records.{held, transactions, is_alike, groups, Count, count_of, first_sequence, is_none, told_as, numbered, records_in, data_records}
-use Rattle.cs_steps.proofs.Tools.{in_nil, in_head, in_tail, in_cons, bytes_same, from_filter, from_flat, pairs_left, pairs_right, pairs_filter, pairs_weaker}
 use Rattle.cs_steps.proofs.Cuts.{whole, in_whole, each}
 use Rattle.cs_steps.proofs.Alike.{IsRun, run_one, run_more, IsSound, told_run, sound_run}
 

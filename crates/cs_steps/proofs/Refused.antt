@@ -6,6 +6,7 @@ use Rattle.cs_place.specs.declared.part.Part.{Part}
 use Rattle.cs_place.specs.Layout.{IsSoundLayout}
 use Rattle.cs_types.specs.Names.{is_same}
 use Rattle.cs_types.specs.Exact.{same_name-is}
+use Rattle.cs_types.specs.Members.{in_nil, in_head, in_tail, in_cons}
 use Rattle.cs_partitions.specs.Reshape.{part_named}
 use Rattle.cs_link.specs.declared.feed.Feed.{Feed}
 use Rattle.cs_link.specs.declared.reading.ReadArgs.{ReadArgs}
@@ -13,7 +14,6 @@ use Rattle.cs_link.specs.declared.refusal.ReadRefusal.{ReadRefusal}
 use Rattle.cs_link.specs.Refusal.{IsAskedFor, IsRefusedBy}
 use Rattle.cs_steps.specs.Refusals.{ends_before, time_refusal, past_refusal, part_refusal, found_refusal, token_refusal, first_refusal, FirstIsRight, NoneIsRight}
 use Rattle.cs_steps.proofs.Premises.{TokensNameParts}
-use Rattle.cs_steps.proofs.Tools.{in_nil, in_head, in_tail, in_cons}
 
 -- ---- the part of a token
 

@@ -3,6 +3,7 @@ use Rattle.std.proofs.Common.{◌≡◌, ◌≢◌, ℕ, ◌≤◌, Bool, true, 
 use Rattle.std.proofs.lemmas.Bool.{and_parts}
 use Rattle.std.proofs.lemmas.List.{length-map}
 use Rattle.cs_types.specs.declared.change.Change.{Change}
+use Rattle.cs_types.specs.Members.{Pairwise, in_nil, in_filter, from_filter, filter_shorter, pairs_to, pairs_from, pairs_filter, pairs_weaker, in_map, from_map}
 use Rattle.cs_place.specs.declared.part.Part.{Part}
 use Rattle.cs_place.specs.Part.{is_held, is_live}
 use Rattle.cs_place.specs.Layout.{IsSoundLayout}
@@ -17,9 +18,8 @@ use Rattle.cs_steps.specs.Steps.{by_low, first_of, live_at, steps_of_start}
 use Rattle.cs_steps.proofs.Held.{live_from, from_live}
 use Rattle.cs_steps.proofs.Listed.{children_follow, apart_in, new_in, there}
 use Rattle.cs_steps.proofs.Low.{from_low, into_low, pairs_low, length_low}
-use Rattle.cs_steps.proofs.Pairs.{Pairwise, pairs_from, pairs_to}
 use Rattle.cs_steps.proofs.Records.{change_of}
-use Rattle.cs_steps.proofs.Tools.{in_nil, in_filter, from_filter, in_map, from_map, pairs_filter, pairs_weaker, pairs_map, filter_shorter}
+use Rattle.cs_steps.proofs.Tools.{pairs_map}
 
 module _ (parts : List Part) (items : List Captured) (created retention start : ℕ) (S : IsSoundLayout created parts) (few : length parts ≤ 65536) where
   abbrev feed : Feed

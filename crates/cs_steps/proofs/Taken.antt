@@ -3,6 +3,7 @@ use Rattle.std.proofs.Common.{◌≡◌, ℕ, zero, suc, ◌+◌, ◌*◌, ◌�
 use Rattle.std.proofs.Math.Seq.{drop-cons}
 use Rattle.std.proofs.lemmas.List.{get_or_default, length-take-le}
 use Rattle.std.proofs.lemmas.List.Elements.{All-contains, All-take, All-drop}
+use Rattle.cs_types.specs.Members.{in_head, in_tail}
 use Rattle.cs_records.specs.declared.captured.Captured.{Captured}
 use Rattle.cs_records.specs.declared.records.Child.{Child}
 use Rattle.cs_records.specs.declared.records.DataRecord.{DataRecord}
@@ -12,7 +13,6 @@ use Rattle.cs_steps.specs.Places.{taken_at, places_of, record_at, StandFor}
 use Rattle.cs_steps.specs.Steps.{child_groups}
 use Rattle.cs_steps.proofs.Cuts.{count}
 use Rattle.cs_steps.proofs.CursorSteps.{some_at}
-use Rattle.cs_steps.proofs.Tools.{in_head, in_tail}
 use Rattle.cs_steps.specs.Records.{Count, record_of, told_as}
 
 pub taken_first : {A : Type 0} (items : List A) (ks : List ℕ) (x : A) → 0 < length ks → get_or ks 0 0 < length items → x ≡ get_or items (get_or ks 0 0) x → (more : List A) × (taken_at items ks ≡ x ∷ more)

@@ -9,6 +9,7 @@ use Rattle.cs_place.specs.declared.part.Part.{Part}
 use Rattle.cs_place.specs.Part.{IsBefore}
 use Rattle.cs_place.specs.Layout.{IsSoundLayout}
 use Rattle.cs_types.specs.Names.{is_among}
+use Rattle.cs_types.specs.Members.{Pairwise, in_nil, in_cons, in_filter, from_filter, filter_shorter, snoc_append, pairs_to, pairs_from, pairs_filter, pairs_weaker, in_map, from_map}
 use Rattle.cs_partitions.specs.Views.{children_of as parts_after}
 use Rattle.cs_records.specs.declared.captured.Captured.{Captured}
 use Rattle.cs_records.specs.declared.records.Child.{Child}
@@ -32,9 +33,8 @@ use Rattle.cs_steps.proofs.Listed.{children_follow, apart_in, new_in, there}
 use Rattle.cs_steps.proofs.Low.{from_low, into_low, pairs_low, length_low}
 use Rattle.cs_steps.proofs.Paced.{IsWanted, paced_follows}
 use Rattle.cs_steps.proofs.Premises.{RunsTell}
-use Rattle.cs_steps.proofs.Pairs.{Pairwise, pairs_from, pairs_to}
 use Rattle.cs_steps.proofs.Records.{change_of, records_told, records_sound}
-use Rattle.cs_steps.proofs.Tools.{in_nil, in_cons, in_filter, from_filter, in_map, from_map, pairs_filter, pairs_weaker, pairs_map, in_among, from_among, filter_shorter, snoc_append}
+use Rattle.cs_steps.proofs.Tools.{pairs_map, in_among, from_among}
 
 -- ---- lists that follow
 
