@@ -3,6 +3,7 @@ import functools
 import re
 
 from . import reads
+from .follower import Pace, followed
 from .generated import END, START, STREAM, script_of
 from .history import captured
 from .refusal import Refusal
@@ -77,26 +78,61 @@ def bad_window(stream, start, end, before):
     return before + 2 if stamps[1] < stamps[0] else None
 
 
-def replay(script, stream, start, end, output=b""):
+def number(word, least, most):
+    """The number that a word of 1 to 10 digits is, within its bounds; None where it is none."""
+    return int(word) if re.fullmatch("[0-9]{1,10}", word) and least <= int(word) <= most else None
+
+
+def moment_of(word):
+    try:
+        return read_stamp(word)
+    except Refusal:
+        return None
+
+
+OPTIONS = {
+    "--order": lambda word: number(word, 0, 10 ** 10),
+    "--turns": lambda word: number(word, 1, 1000000),
+    "--batch": lambda word: number(word, 1, 8192),
+    "--moment": moment_of,
+}
+
+
+def options_of(words):
+    """The values of the options by their words, or the place among these words of the first bad one."""
+    given = {}
+    for place in range(0, len(words), 2):
+        if words[place] not in OPTIONS or words[place] in given:
+            return place
+        value = OPTIONS[words[place]](words[place + 1]) if place + 1 < len(words) else None
+        if value is None:
+            return place + 1
+        given[words[place]] = value
+    return given
+
+
+def replay(script, stream, start, end, *options, output=b""):
     """Of a replay over a script's bytes into an output that has these bytes."""
     place = bad_window(stream, start, end, 4)
     if place is not None:
         return Answer(50, "BadWords", place, output=output)
+    given = options_of(options)
+    if isinstance(given, int):
+        return Answer(50, "BadWords", 7 + given, output=output)
     state = loaded(script)
     if isinstance(state, BadScript):
         return Answer(51, "BadScript", state.line, state.cause, output=output)
     if output:
         return Answer(55, "OutputNotEmpty", len(output), output=output)
-    start, end = read_stamp(start), read_stamp(end)
-    if stream not in state.catalog.streams:
-        return Answer(21, "Refused", "UnknownFunction")
-    if start < state.catalog.streams[stream].created:
-        return Answer(21, "Refused", "StartBeforeCreation")
-    earliest = end - state.catalog.streams[stream].retention
-    if start < earliest:
-        return Answer(20, "RetentionPassed", write_stamp(earliest))
-    lines = [it.line for it in wanted(state, stream, start, end)] + [watermark(end)]
-    return Answer(0, "Ended", output="".join(it + "\n" for it in lines).encode())
+    end = read_stamp(end)
+    pace = Pace(**{name[2:]: value for name, value in given.items() if name != "--moment"})
+    stop, lines = followed(state, stream, read_stamp(start), end, given.get("--moment", end), pace)
+    return Answer(*stop, output="".join(it + "\n" for it in lines).encode())
+
+
+def changes(script, stream, start, end):
+    """What a script's stream tells of a window, in commit order."""
+    return wanted(loaded(script), stream, read_stamp(start), read_stamp(end))
 
 
 def is_line(line):
