@@ -3,6 +3,7 @@ their answers and refusals, and what a command prints."""
 import os
 import re
 
+import judge
 import model
 from lines import ddl
 
@@ -44,10 +45,14 @@ def check_fence(note, room, script, what, words, content):
         return
     window, path = words[:3], room.put("script", script)
     if what == "output":
-        own = model.replay(script, *window)
-        note(own.status == 0 and own.output == content.encode(), f"FORMATS.md, replay of {window}: the model", own.console)
-        ran = room.run(["replay", path, "journal", "output", *window])
-        note(ran.returncode == 0 and room.read("output") == content.encode(), f"FORMATS.md, replay of {window}", str(ran)[:400])
+        # one with a moment is of a replay that pauses
+        status, output = 10 if "--moment" in words else 0, content.encode()
+        own = model.replay(script, *words)
+        note(own.status == status and own.output == output, f"FORMATS.md, replay of {words}: the model", own.console)
+        saw = judge.wrong(status, output, [it.line for it in model.changes(script, *window)], window[2])
+        note(saw is None, f"FORMATS.md, replay of {words}: the judge", saw)
+        ran = room.run(["replay", path, "journal", "output", *words])
+        note(ran.returncode == status and room.read("output") == output, f"FORMATS.md, replay of {words}", str(ran)[:400])
         return
     want = " ".join(words[3:]) + "\n"
     own = model.check(script, content.encode(), *window)
@@ -67,7 +72,7 @@ def check_query(note, room, script, now, query, want):
 def check(note, room, top):
     scripts, fences, lines, queries = parts_of(os.path.join(top, "docs", "FORMATS.md"))
     counts = len(scripts), len(fences), len(lines), len(queries)
-    note(counts[0] == 1 and len(fences) >= 5 and len(lines) >= 30 and len(queries) >= 16, "FORMATS.md has its examples", counts)
+    note(counts[0] == 1 and len(fences) >= 8 and len(lines) >= 30 and len(queries) >= 16, "FORMATS.md has its examples", counts)
     for fence in fences:
         check_fence(note, room, scripts[0], *fence)
     for cause, line in lines:

@@ -1,6 +1,6 @@
 """A reader of a change stream that knows nothing of how answers are made. It follows the partitions from the READ without a
 token through their children, as Spanner's page says a reader does, holds each answer against what an honest server may
-answer, and at the end all that it was told against a replay of the same window."""
+answer, and at the end all that it was told against the changes that are wanted of the same window."""
 import json
 
 from records import ORDER, change_lines
@@ -209,15 +209,14 @@ def check_transactions(told):
             sure([it["is_last_record_in_transaction_in_partition"] for it in there] == [False] * (len(there) - 1) + [True], f"the last record of {tx} in {token}")
 
 
-def unlike(ask, stream, window, moments, output):
-    """What is wrong with the answers, beside the output of a replay of the same window; None where nothing is."""
+def unlike(ask, stream, window, moments, wanted):
+    """What is wrong with the answers, beside the lines of the window's changes in commit order; None where nothing is."""
     reader = Reader(ask, stream, window)
     try:
         reader.follow(moments)
         told = reader.trees()
         check_transactions(told)
         lines = [line for _, trees in told for tree in trees for line in change_lines(tree)]
-        wanted = output.decode().split("\n")[:-2]
         sure(sorted(lines) == sorted(wanted), f"{len(lines)} changes are told, {len(wanted)} are wanted: {sorted(set(lines) ^ set(wanted))[:2]}")
         sure(rows_of(lines) == rows_of(wanted), "the order within a row")
     except (Wrong, KeyError, ValueError, TypeError) as wrong:

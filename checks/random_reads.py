@@ -229,9 +229,8 @@ def check_round(note, asked, seed):
             saw = asked.differs(less, now, query)
         note(saw is None, f"seed {seed}, show at {now} of {query!r}", f"{less!r}: {saw}")
     for stream, window, moments in made.windows:
-        wanted = model.replay(script, stream, *window)
-        if wanted.status == 0 and moments and moments[-1] >= window[1]:
-            saw = honest.unlike(asked.answer(script), stream, window, moments, wanted.output)
+        if model.replay(script, stream, *window).status == 0 and moments and moments[-1] >= window[1]:
+            saw = honest.unlike(asked.answer(script), stream, window, moments, [it.line for it in model.changes(script, stream, *window)])
             note(saw is None, f"seed {seed}, {stream} followed in {window} at {moments}", f"{script!r}: {saw}")
 
 

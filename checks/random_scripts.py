@@ -4,9 +4,9 @@ import random
 import time
 
 import model
-from model.texts import write_stamp
+from model.texts import read_stamp, write_stamp
 from random_lines import STREAMS, Maker
-from random_outputs import another_order, bytes_of, damaged
+from random_outputs import another_order, bytes_of, damaged, mark
 
 MOST_LINES = 120
 DAY = 86400 * 10 ** 6
@@ -65,9 +65,9 @@ class Round:
         good = model.replay(self.script(), *window)
         if good.status != 0:
             return [(window, b'{"key":{}}\n')]
-        lines = good.output.split(b"\n")[:-1]
-        other = another_order(rng, lines)
-        return [(window, bytes_of(rng, it)) for it in (other, damaged(rng, lines), damaged(rng, other), damaged(rng, other))]
+        lines = [it.line.encode() for it in model.changes(self.script(), *window)] + [mark(read_stamp(window[2]))]
+        other, own = another_order(rng, lines), good.output.split(b"\n")[:-1]
+        return [(window, bytes_of(rng, it)) for it in (lines, other, damaged(rng, lines), damaged(rng, other), damaged(rng, other), damaged(rng, own))]
 
 
 class Asked:

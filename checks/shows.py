@@ -308,7 +308,7 @@ def check_cut(note, room):
         return ran.returncode, ran.stdout.decode()
 
     window = at(1), at(9)
-    saw = honest.unlike(ask, "S", window, [at(2), at(9)], model.replay(script, "S", *window).output)
+    saw = honest.unlike(ask, "S", window, [at(2), at(9)], [it.line for it in model.changes(script, "S", *window)])
     note(saw is None, "show, a stream followed through a cut answer and a split", saw)
 
 

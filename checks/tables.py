@@ -1,6 +1,6 @@
 """What the program must say of words, and of some scripts that it takes: each row has an input and the answer that the formats give it."""
 
-STATUSES = (0, 11, 20, 21, 41, 42, 43, 50, 51, 55, 56, 60, 70)
+STATUSES = (0, 10, 11, 20, 21, 41, 42, 43, 50, 51, 55, 56, 60, 70)
 
 TABLE = b'{"at":"2024-05-01T00:00:00Z","ddl":"CREATE TABLE T (K INT64 NOT NULL, A INT64, B STRING(MAX)) PRIMARY KEY (K)"}\n'
 STREAM = b'{"at":"2024-05-01T00:00:00Z","ddl":"CREATE CHANGE STREAM S FOR T"}\n'
@@ -25,6 +25,12 @@ GOOD_OUTPUT = change() + watermark(WINDOW[1])
 
 REPLAY = ("replay", "SCRIPT", "journal", "output")
 START, END = WINDOW
+OPTIONS = (*REPLAY, "S", START, END)
+TAKEN_OPTIONS = (("--order", "0"), ("--turns", "1000000"), ("--batch", "8192"), ("--moment", END))
+ALL_OPTIONS = tuple(it for pair in TAKEN_OPTIONS for it in pair)
+
+# no numbers of 1 to 10 digits
+NO_NUMBERS = ("", "x", "-1", "+1", "1.0", "1e1", " 1", "1 ", "0x1", "1_0", "00000000001", "10000000000", "\u0661", "--turns")
 
 MOMENT = END
 QUERY = "SELECT ChangeRecord FROM READ_S('2024-05-01T00:00:01Z', NULL, NULL, 10000)"
@@ -61,9 +67,28 @@ BAD_WORDS = [
     ((*REPLAY, "S", "2024-05-01T00:00:01.000001Z", START), 6),
     ((*REPLAY, "S", END, START), 6),
     ((*REPLAY, "S", END, START, "x"), 6),
+    (("replay", "a", "b", "c", "S"), 5),
     ((*REPLAY, "S", START, END, "x"), 7),
-    ((*REPLAY, "S", START, END, "--order", "0"), 7),
     ((*REPLAY, "S", START, END, ""), 7),
+    ((*REPLAY, "--order", "0", "S", START, END), 4),
+    ((*REPLAY, "S", "--order", "0", START, END), 5),
+    ((*REPLAY, "S", START, "--order", "0", END), 6),
+    *(((*OPTIONS, it, "1"), 7) for it in ("order", "-order", "--ORDER", "--orders", "--order=1", "--workers", "--step", "--text", "--", "--help")),
+    *(((*OPTIONS, it), 8) for it in ("--order", "--turns", "--batch", "--moment")),
+    *(((*OPTIONS, name, it), 8) for name in ("--order", "--turns", "--batch") for it in NO_NUMBERS),
+    *(((*OPTIONS, "--turns", it), 8) for it in ("0", "0000000000", "1000001", "0001000001", "9999999999")),
+    *(((*OPTIONS, "--batch", it), 8) for it in ("0", "0000000000", "8193", "0000008193", "9999999999")),
+    *(((*OPTIONS, "--moment", it), 8) for it in (*NO_STAMPS, "1", "--turns")),
+    *(((*OPTIONS, *it, "x"), 9) for it in TAKEN_OPTIONS),
+    *(((*OPTIONS, *it, ""), 9) for it in TAKEN_OPTIONS),
+    *(((*OPTIONS, *it, *it), 9) for it in TAKEN_OPTIONS),
+    *(((*OPTIONS, name, it, name, "x"), 9) for name, it in TAKEN_OPTIONS),
+    *(((*OPTIONS, name, it, name), 9) for name, it in TAKEN_OPTIONS),
+    *(((*OPTIONS, *one, two), 10) for one, (two, _) in zip(TAKEN_OPTIONS, (*TAKEN_OPTIONS[1:], TAKEN_OPTIONS[0]))),
+    *(((*OPTIONS, *one, two, "-1"), 10) for one, (two, _) in zip(TAKEN_OPTIONS, (*TAKEN_OPTIONS[1:], TAKEN_OPTIONS[0]))),
+    ((*OPTIONS, *ALL_OPTIONS, "x"), 15),
+    ((*OPTIONS, *ALL_OPTIONS, "--order", "1"), 15),
+    ((*OPTIONS, *ALL_OPTIONS[2:], "--order", "x"), 14),
     (("check",), 1),
     (("check", "SCRIPT"), 2),
     (("check", "SCRIPT", "output"), 3),
@@ -74,6 +99,7 @@ BAD_WORDS = [
     (("check", "SCRIPT", "output", "S", START, "noon"), 5),
     (("check", "SCRIPT", "output", "S", END, START), 5),
     (("check", "SCRIPT", "output", "S", START, END, "x"), 6),
+    (("check", "SCRIPT", "output", "S", START, END, "--order", "0"), 6),
     (("show",), 1),
     (("show", "SCRIPT"), 2),
     (("show", "SCRIPT", MOMENT), 3),
@@ -93,19 +119,29 @@ BAD_WORDS = [
     (("gen",), 1),
     *((("gen", it), 1) for it in ("", "x", "8", "11", "50001", "50002", "-10", "+10", "10.0", " 10", "00000000010", "9999999999", "--text")),
     (("gen", "10", "x"), 2),
+    (("gen", "10", "--order", "0"), 2),
     (("gen", "10", "--TEXT"), 2),
     (("gen", "10", "--text", "--text"), 3),
     (("gen", "11", "--text"), 1),
 ]
 
 
+def stamp(seconds, fraction=b""):
+    return b"2024-05-01T%02d:%02d:%02d%sZ" % (seconds // 3600, seconds // 60 % 60, seconds % 60, fraction)
+
+
 def many(commits):
-    """A script with a window from its second third, and its output."""
-    stamps = [b"2024-05-01T%02d:%02d:%02dZ" % (k // 2 // 3600, k // 2 // 60 % 60, k // 2 % 60) for k in range(commits)]
+    """A script with a window from its second third, and its output: each READ takes 1,024 records, and a watermark a microsecond
+    below the last of them follows."""
+    stamps = [stamp(k // 2) for k in range(commits)]
     script = PREAMBLE + b"".join(insert(b"%d" % k, stamps[k], b"t%d" % k, b"%d" % (k * k), b"n%d" % k) for k in range(commits))
     start, end = stamps[commits // 3].decode(), stamps[2 * commits // 3].decode()
     wanted = [k for k in range(commits) if start.encode() <= stamps[k] <= end.encode()]
-    return script, (start, end), b"".join(change(b"%d" % k, stamps[k], b"t%d" % k, b"%d" % (k * k), b"n%d" % k) for k in wanted) + watermark(end)
+    lines = [change(b"%d" % k, stamps[k], b"t%d" % k, b"%d" % (k * k), b"n%d" % k) for k in wanted]
+    pages = [b"".join(lines[place: place + 1024]) for place in range(0, len(lines), 1024)]
+    marks = [watermark(stamp(wanted[place] // 2 - 1, b".999999").decode()) for place in range(1023, len(wanted), 1024)]
+    return script, (start, end), b"".join(page + mark for page, mark in zip(pages, [*marks, b""])) + watermark(end)
+
 
 GOOD_SCRIPTS = [
     ("without a commit", PREAMBLE, ("2024-05-01T00:00:10Z", "2024-05-01T00:00:20Z"), watermark("2024-05-01T00:00:20Z")),

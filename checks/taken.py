@@ -1,6 +1,7 @@
 """Scripts that are taken, each with the output that was worked out by hand, and windows with their answers. The model
 must agree with a row before the program is asked."""
 import model
+from follows import before
 from lines import PREAMBLE, at, border, change, commit, ddl, delete, insert, reshape, update, watermark
 from scripts import MOST_BYTES, ONE, SPLIT, WINDOW, grown, inserts, written_again
 
@@ -19,7 +20,7 @@ TAKEN = [
     ("names between backquotes", ddl("create table `all` (`K` int64) primary key (K asc);") + ddl("CREATE CHANGE STREAM S FOR `all`") + commit(1, "t1", insert(1, table="all")), WINDOW, change("INSERT", 1, 1, "t1", table="all") + watermark(10)),
     ("the largest row", PREAMBLE + written_again(1), (at(2), at(2)), change("UPDATE", 1, 2, "t0", {"A": None}, {"A": None}) + watermark(2)),
     ("1,024 writes of a stamp", PREAMBLE + commit(1, "t1", *inserts(1023)) + commit(1, "t2", insert(1023)) + commit(2, "t3", insert(1024)), (at(2), at(2)), change("INSERT", 1024, 2, "t3", {"A": None, "B": None}) + watermark(2)),
-    ("64 parts, and all of their parts", PREAMBLE + grown(1023), WINDOW, watermark(10)),
+    ("64 parts, and all of their parts", PREAMBLE + grown(1023), WINDOW, b"".join(before(it) for it in range(2, 11)) + watermark(10)),
     ("the longest script", PREAMBLE + ONE + b"#" * (MOST_BYTES - len(PREAMBLE + ONE)), WINDOW, INSERTED + watermark(10)),
     ("a column that was added later", PREAMBLE + ONE + ddl("ALTER TABLE T ADD COLUMN C DATE", 2) + commit(3, "t2", update(1, C="2024-02-29")) + commit(4, "t3", delete(1)), WINDOW,
      INSERTED + change("UPDATE", 1, 3, "t2", {"C": "2024-02-29"}, {"C": None}) + change("DELETE", 1, 4, "t3", {}, {"A": "5", "B": "x", "C": "2024-02-29"}) + watermark(10)),
@@ -27,9 +28,9 @@ TAKEN = [
      change("INSERT", 1, 1, "t1", {"A": "5"}) + change("UPDATE", 1, 3, "t3", {"A": "5"}, {"A": "5"}) + watermark(10)),
     ("FOR T()", ddl("CREATE TABLE T (K INT64 NOT NULL, A INT64, B STRING(MAX)) PRIMARY KEY (K)") + ddl("CREATE CHANGE STREAM S FOR T()") + ONE + commit(2, "t2", update(1, A="6")) + commit(3, "t3", delete(1)), WINDOW,
      change("INSERT", 1, 1, "t1") + change("DELETE", 1, 3, "t3") + watermark(10)),
-    ("a split at a row's own place", PREAMBLE + SPLIT + commit(5, "t1", insert(100, A="5", B="x")), WINDOW, change("INSERT", 100, 5, "t1", {"A": "5", "B": "x"}) + watermark(10)),
+    ("a split at a row's own place", PREAMBLE + SPLIT + commit(5, "t1", insert(100, A="5", B="x")), WINDOW, before(5) + change("INSERT", 100, 5, "t1", {"A": "5", "B": "x"}) + watermark(10)),
     ("a split and a merge", PREAMBLE + reshape(2, [0], [border(100)]) + commit(3, "a", insert(1)) + commit(4, "b", insert(200)) + reshape(6, [1, 2]) + commit(7, "c", insert(2)), (at(3), at(8)),
-     change("INSERT", 1, 3, "a", {"A": None, "B": None}) + change("INSERT", 200, 4, "b", {"A": None, "B": None}) + change("INSERT", 2, 7, "c", {"A": None, "B": None}) + watermark(8)),
+     change("INSERT", 1, 3, "a", {"A": None, "B": None}) + change("INSERT", 200, 4, "b", {"A": None, "B": None}) + before(6) + change("INSERT", 2, 7, "c", {"A": None, "B": None}) + watermark(8)),
 ]
 
 RETAINED = b"".join(ddl(f"CREATE CHANGE STREAM {name} OPTIONS (retention_period = {text})", 9) for name, text in (("S", "NULL"), ("R", "'036h'"), ("Q", "'7d'")))
