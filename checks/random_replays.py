@@ -118,6 +118,12 @@ class Asked:
         return None
 
 
+def fullest(script, windows):
+    """The words of the window with the most changes among those of which a replay ends; None where there is none."""
+    ended = [it for it in map(words_of, windows) if model.replay(script, *it).status == 0]
+    return max(ended, key=lambda it: len(model.changes(script, *it)), default=None)
+
+
 def check_round(note, asked, seed, counts):
     made = Round(seed)
     script = made.script()
@@ -130,8 +136,8 @@ def check_round(note, asked, seed, counts):
         note(saw is None, f"seed {seed}, replay of {words}", f"{less!r}: {saw}")
         status = model.replay(script, *words).status
         counts[status] = counts.get(status, 0) + 1
-    window = words_of(made.windows[0])
-    if model.replay(script, *window).status == 0:
+    window = fullest(script, made.windows)
+    if window is not None:
         saw = asked.differ(script, window)
         note(saw is None, f"seed {seed}, replays of {window} in several orders", f"{script!r}: {saw}")
 
