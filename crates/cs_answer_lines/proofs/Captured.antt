@@ -5,6 +5,7 @@ use Rattle.std.specs.Option.{option_or}
 use Rattle.std.proofs.lemmas.List.Elements.{All-contains, All-head, All-tail}
 use Rattle.cs_types.specs.Exact.{same_name-is}
 use Rattle.cs_types.specs.Names.{is_same}
+use Rattle.cs_types.specs.Members.{in_nil, in_head, in_tail, in_cons}
 use Rattle.cs_records.specs.declared.captured.Captured.{Captured}
 use Rattle.cs_records.specs.Group.{HasItsColumns}
 use Rattle.cs_schema.specs.declared.types.Table.{Table}
@@ -20,7 +21,6 @@ use Rattle.cs_json_reading.specs.Texts.{is_transaction, is_name}
 use Rattle.cs_steps.specs.Captures.{IsKept, captured_since, captured_items}
 use Rattle.cs_answer_lines.specs.Writable.{AreWritable}
 use Rattle.cs_answer_lines.proofs.Listed.{IsGood}
-use Rattle.cs_answer_lines.proofs.Members.{in_nil, in_head, in_tail, in_cons}
 
 -- what the law on captured changes says of one
 pub record CanBeTold : Type 0 where

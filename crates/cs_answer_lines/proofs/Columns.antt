@@ -5,9 +5,9 @@ use Rattle.cs_types.specs.declared.cells.Cell.{Cell}
 use Rattle.cs_types.specs.declared.column_type.ColumnType.{ColumnType}
 use Rattle.cs_types.specs.Exact.{same_name-is}
 use Rattle.cs_types.specs.Names.{is_same, is_among, first_again, columns_of}
+use Rattle.cs_types.specs.Members.{in_nil, in_head, in_tail, in_cons}
 use Rattle.cs_records.specs.declared.captured.ColumnInfo.{ColumnInfo}
 use Rattle.cs_json_reading.specs.Columns.{column_type, names_of}
-use Rattle.cs_answer_lines.proofs.Members.{in_nil, in_head, in_tail, in_cons}
 
 abbrev no_type : Option ColumnType
 no_type = None

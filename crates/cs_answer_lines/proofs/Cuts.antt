@@ -1,8 +1,8 @@
 -- Lists cut into neighbours: nothing is lost, and what holds of one element and goes on with each that is taken holds of each group.
 use Rattle.std.proofs.Common.{◌≡◌, suc, ◌+◌, ◌≤◌, Bool, true, false, cond, List, [], ◌∷◌, ◌++◌, length, filter, ⊎_elim, refl, sym, ap, ◌∙◌, subst, arith, Contains, length-append, append_assoc}
 use Rattle.std.proofs.lemmas.List.Elements.{filter-append}
+use Rattle.cs_types.specs.Members.{in_nil, in_cons, in_flat}
 use Rattle.cs_steps.specs.Cutting.{cut_behind, cut, joined}
-use Rattle.cs_answer_lines.proofs.Members.{in_nil, in_cons, in_flat}
 
 module _ {A : Type 0} (takes : List A → A → Bool) where
   joined_behind : (group xs : List A) → joined (cut_behind takes group xs) ≡ group ++ xs

@@ -4,6 +4,7 @@ use Rattle.std.proofs.lemmas.List.Elements.{All-contains, All-map}
 use Rattle.cs_types.specs.declared.cells.Cell.{Cell}
 use Rattle.cs_types.specs.Names.{is_among, columns_of}
 use Rattle.cs_types.specs.Value.{IsOfType}
+use Rattle.cs_types.specs.Members.{in_head, in_cons, all_in}
 use Rattle.cs_records.specs.declared.captured.Captured.{Captured}
 use Rattle.cs_records.specs.declared.captured.ColumnInfo.{ColumnInfo}
 use Rattle.cs_records.specs.declared.records.Mod.{Mod}
@@ -14,7 +15,6 @@ use Rattle.cs_json_reading.specs.Standing.{OfColumn, IsListed, IsListedMod, CanS
 use Rattle.cs_json_reading.specs.Texts.{is_transaction, is_name}
 use Rattle.cs_steps.specs.Records.{Count, record_of}
 use Rattle.cs_answer_lines.proofs.Columns.{found, has_column, apart}
-use Rattle.cs_answer_lines.proofs.Members.{in_head, in_cons, all_in}
 use Rattle.cs_answer_lines.proofs.Runs.{alike_itself}
 
 -- a captured change whose names a line can have, with the columns of its cells and their types

@@ -5,11 +5,11 @@ use Rattle.std.proofs.lemmas.List.Elements.{All-nil, All-push, Contains-append_c
 use Rattle.cs_types.specs.declared.change.Kind.{Kind}
 use Rattle.cs_types.specs.declared.change.Kind.TheVariants.{Insert, Update, Delete}
 use Rattle.cs_types.specs.Names.{columns_of}
+use Rattle.cs_types.specs.Members.{bytes_same, in_nil, in_cons}
 use Rattle.cs_records.specs.declared.captured.Captured.{Captured}
 use Rattle.cs_records.specs.Group.{IsAlike}
 use Rattle.cs_steps.specs.Cutting.{first_is}
 use Rattle.cs_steps.specs.Records.{kind_number, same_names, is_alike}
-use Rattle.cs_answer_lines.proofs.Members.{in_nil, in_cons, bytes_same}
 
 kinds_same : (a b : Kind) → (kind_number a == kind_number b) ≡ true → a ≡ b
 kinds_same Insert Insert h = refl

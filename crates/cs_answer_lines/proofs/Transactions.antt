@@ -2,6 +2,7 @@
 use Rattle.std.proofs.Common.{◌≡◌, ℕ, suc, ◌+◌, ◌*◌, ◌<◌, ◌≤◌, ◌^◌, ◌==◌, Bool, true, nat_lt, List, [], ◌∷◌, length, filter, sum_by, sym, ap, ◌∙◌, subst, arith, Contains, All}
 use Rattle.std.proofs.lemmas.List.Sums.{sum_by-le}
 use Rattle.std.proofs.lemmas.List.Elements.{All-nil, All-cons, All-append}
+use Rattle.cs_types.specs.Members.{in_head, in_tail, from_filter, filter_shorter, all_in}
 use Rattle.cs_place.specs.declared.part.Part.{Part}
 use Rattle.cs_place.specs.Part.{is_below, is_held}
 use Rattle.cs_records.specs.declared.captured.Captured.{Captured}
@@ -12,7 +13,7 @@ use Rattle.cs_steps.specs.Feed.{AreCommitted}
 use Rattle.cs_steps.specs.Records.{held, transactions, groups, records_of, Count, count_of, first_sequence, is_none, told_as, numbered, records_in, data_records}
 use Rattle.cs_answer_lines.proofs.Cuts.{whole, in_whole, each, fewer, fewer_pass}
 use Rattle.cs_answer_lines.proofs.Listed.{IsGood, stands}
-use Rattle.cs_answer_lines.proofs.Members.{in_head, in_tail, all_in, all_flat, all_pass, from_filter, filter_shorter}
+use Rattle.cs_answer_lines.proofs.Members.{all_flat, all_pass}
 use Rattle.cs_answer_lines.proofs.Runs.{joins, IsRun, run_one, run_more, goes_on, HasOneId, id_one, id_more}
 
 same_eq : (a b : ℕ) → a ≡ b → (a == b) ≡ true
@@ -74,7 +75,7 @@ module _ (parts : List Part) (items : List Captured) (few : length parts ≤ 655
         run = each joins IsRun run_one run_more (held part tx) g i
 
         in_tx : (c : Captured) → Contains (run.first ∷ run.more) c → Contains tx c
-        in_tx c j = from_filter (λ c. is_held part (place_of c.change.row) c.change.stamp) c tx (in_whole joins (held part tx) g c i (subst (λ l. Contains l c) (sym run.split) j))
+        in_tx c j = (from_filter (λ c. is_held part (place_of c.change.row) c.change.stamp) c tx (in_whole joins (held part tx) g c i (subst (λ l. Contains l c) (sym run.split) j))).0
 
     pub records_stand : (part : Part) → All CanStandFor (records_in parts part tx)
     records_stand part =

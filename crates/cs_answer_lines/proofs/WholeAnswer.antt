@@ -4,6 +4,7 @@ use Rattle.std.specs.Int.{is_in_range}
 use Rattle.std.proofs.lemmas.List.{length-map}
 use Rattle.std.proofs.lemmas.List.Elements.{All-nil, All-cons, All-head, All-tail, All-append, All-take, All-filter, All-contains}
 use Rattle.cs_types.specs.Names.{is_among}
+use Rattle.cs_types.specs.Members.{filter_shorter}
 use Rattle.cs_place.specs.declared.part.Part.{Part}
 use Rattle.cs_place.specs.Part.{is_below, is_live}
 use Rattle.cs_partitions.specs.Views.{children_of as parts_after}
@@ -20,7 +21,6 @@ use Rattle.cs_answer_lines.specs.StepLine.{CanStandAs}
 use Rattle.cs_answer_lines.specs.Writable.{PartCanStand, StartCanStand, EachCanStand}
 use Rattle.cs_answer_lines.proofs.Captured.{CanBeTold, good_items}
 use Rattle.cs_answer_lines.proofs.Cuts.{fewer}
-use Rattle.cs_answer_lines.proofs.Members.{filter_shorter}
 use Rattle.cs_answer_lines.proofs.Transactions.{data_stand}
 
 one_step : (x : Step) → CanStandAs x → All CanStandAs (x ∷ [])

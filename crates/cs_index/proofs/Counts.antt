@@ -1,9 +1,10 @@
 -- Lists cut into groups: nothing is lost, and none is empty, so that a part has a record for each group of its changes.
-use Rattle.std.proofs.Common.{◌≡◌, ℕ, zero, suc, ◌+◌, ◌<◌, Bool, true, false, cond, List, [], ◌∷◌, ◌++◌, length, filter, Option, None, Some, refl, sym, ap, ◌∙◌, subst, arith, append-nil, append_assoc, Contains, true≢false}
+use Rattle.std.proofs.Common.{◌≡◌, ℕ, suc, ◌+◌, ◌<◌, Bool, true, false, cond, List, [], ◌∷◌, ◌++◌, length, Option, None, Some, refl, sym, ap, ◌∙◌, subst, arith, append-nil, append_assoc, Contains, true≢false}
 use Rattle.std.specs.Prelude.{⊤}
 use Rattle.std.proofs.lemmas.Bool.{ltb-true}
 use Rattle.std.proofs.lemmas.List.{nil_from_length}
 use Rattle.std.proofs.lemmas.List.Elements.{filter-append}
+use Rattle.cs_types.specs.Members.{from_filter}
 use Rattle.cs_place.specs.declared.part.Part.{Part}
 use Rattle.cs_place.specs.Part.{is_held}
 use Rattle.cs_records.specs.declared.captured.Captured.{Captured}
@@ -115,20 +116,8 @@ module _ (parts : List Part) (part : Part) (items : List Captured) (whole : List
 pub some_held : (part : Part) (now : List Captured) → has_record now part ≡ true → (c : Captured) × Contains now c × (is_held part (place_of c.change.row) c.change.stamp ≡ true)
 some_held part now h =
     let r = from_cut _ (held part now) (ltb-true 0 (records_of now part) h) in
-    let m = from_filter (λ x. is_held part (place_of x.change.row) x.change.stamp) now r.0 r.1 in
+    let m = from_filter (λ x. is_held part (place_of x.change.row) x.change.stamp) r.0 now r.1 in
     (r.0, m.0, m.1)
-  where
-    from_filter : (p : Captured → Bool) (xs : List Captured) (x : Captured) → Contains (filter p xs) x → Contains xs x × (p x ≡ true)
-    from_filter p [] x (k, l, e) = absurd (omega arith)
-    from_filter p (y ∷ ys) x j = by (p y) refl j (from_filter p ys x)
-      where
-        step : (t : p y ≡ true) → Contains (y ∷ filter p ys) x → (Contains (filter p ys) x → Contains ys x × (p x ≡ true)) → Contains (y ∷ ys) x × (p x ≡ true)
-        step t (zero, l, e) f = ((0, omega arith, e), subst (λ z. p z ≡ true) e t)
-        step t (suc k, l, e) f = let r = f (k, omega arith, e) in ((suc r.0.0, omega (arith, r.0.1), r.0.2), r.1)
-
-        by : (b : Bool) → p y ≡ b → Contains (cond b (y ∷ filter p ys) (filter p ys)) x → (Contains (filter p ys) x → Contains ys x × (p x ≡ true)) → Contains (y ∷ ys) x × (p x ≡ true)
-        by true t k f = step t k f
-        by false t k f = let r = f k in ((suc r.0.0, omega (arith, r.0.1), r.0.2), r.1)
 
 -- a change more that a part holds gives it a record
 pub has_more : (part : Part) (now : List Captured) (c : Captured) → is_held part (place_of c.change.row) c.change.stamp ≡ true → 0 < records_of (now ++ c ∷ []) part

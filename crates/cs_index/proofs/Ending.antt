@@ -1,5 +1,5 @@
 -- The end of a transaction: the parts that have a record of it, in order of low, give their records the sequences that the definition gives them.
-use Rattle.std.proofs.Common.{◌≡◌, ◌≢◌, ◌⊎◌, ⊎_elim, inl, inr, ℕ, zero, suc, ◌+◌, ◌<◌, ◌≤◌, Bool, true, false, cond, List, [], ◌∷◌, ◌++◌, length, map, filter, sum_by, get_or, set, refl, sym, ap, ◌∙◌, subst, arith, append-nil, append_assoc, length-append, All, Contains, true≢false, nat_cmp, is_lt}
+use Rattle.std.proofs.Common.{◌≡◌, ◌≢◌, ◌⊎◌, ⊎_elim, inl, inr, ℕ, zero, suc, ◌+◌, ◌<◌, ◌≤◌, Bool, true, false, List, [], ◌∷◌, ◌++◌, length, map, filter, sum_by, get_or, set, refl, sym, ap, ◌∙◌, subst, arith, append-nil, append_assoc, length-append, All, Contains, true≢false, nat_cmp, is_lt}
 use Rattle.std.specs.Prelude.{⊤}
 use Rattle.std.specs.Cmp.Lexicographic.{slice_cmp, nat_list_cmp_total}
 use Rattle.std.specs.List.Sorted.{IsPermutation, IsSortedByKey}
@@ -10,6 +10,7 @@ use Rattle.std.proofs.lemmas.List.{get_or_default, get_or-set_same, get_or-set_o
 use Rattle.std.proofs.lemmas.List.Elements.{All-head, All-tail}
 use Rattle.std.proofs.lemmas.List.Sorted.{ranks_by, sorted_far, length_permutation, IsPermutation-map, IsPermutation-trans, Contains-permutation, All-permutation}
 use Rattle.std.proofs.lemmas.List.Sums.{sum_by-cons, sum_by_push}
+use Rattle.cs_types.specs.Members.{in_filter, from_map}
 use Rattle.cs_place.specs.declared.part.Part.{Part}
 use Rattle.cs_place.specs.Part.{is_below}
 use Rattle.cs_records.specs.declared.captured.Captured.{Captured}
@@ -190,25 +191,11 @@ module _ (parts : List Part) (whole : List (List Captured)) (now : List Captured
 found : (parts : List Part) (ts : List Touched) → All (λ (t : Touched). IsAt parts t.index t.part.now) ts → (t : Touched) → Contains ts t → IsAt parts t.index t.part.now
 found parts ts each t (j, l, e) = subst (λ (u : Touched). IsAt parts u.index u.part.now) e (each j t l)
 
-from_map : (ts : List Touched) (x : Part) → Contains (parts_of ts) x → (t : Touched) × Contains ts t × (x ≡ t.part.now)
-from_map [] x (j, l, e) = absurd (omega arith)
-from_map (t ∷ ts) x (zero, l, e) = (t, (0, omega arith, refl), sym e)
-from_map (t ∷ ts) x (suc j, l, e) = let r = from_map ts x (j, omega arith, e) in (r.0, (suc r.1.0, omega (arith, r.1.1), r.1.2), r.2)
-
-in_filter : (q : Part → Bool) (x : Part) (xs : List Part) → Contains xs x → q x ≡ true → Contains (filter q xs) x
-in_filter q x [] (j, l, e) t = absurd (omega arith)
-in_filter q x (y ∷ ys) (zero, l, e) t = subst (λ b. Contains (cond b (y ∷ filter q ys) (filter q ys)) x) (sym (ap q e ∙ t)) (0, omega arith, e)
-in_filter q x (y ∷ ys) (suc j, l, e) t = by (q y) (in_filter q x ys (j, omega arith, e) t)
-  where
-    by : (b : Bool) → Contains (filter q ys) x → Contains (cond b (y ∷ filter q ys) (filter q ys)) x
-    by true h = (suc h.0, omega (arith, h.1), h.2)
-    by false h = h
-
 module _ (ends : EndsWhole) (parts : List Part) (whole : List (List Captured)) (now : List Captured) (order : List Touched) (same : IsPermutation (filter (has_record now) parts) (parts_of order)) (each : All (λ (t : Touched). IsAt parts t.index t.part.now) order)
     (one : (k : ℕ) (part : Part) → IsAt parts k part → has_record now part ≡ true → (j : ℕ) → IsAt parts j part → j ≡ k) where
   among : (k : ℕ) (part : Part) → IsAt parts k part → (b : Bool) → has_record now part ≡ b → Among ends parts whole now order k ⊎ (records_of now part ≡ 0)
   among k part p true e =
-      let m = from_map order part (Contains-permutation (filter (has_record now) parts) (parts_of order) part same (in_filter (has_record now) part parts (k, p.0, p.1) e)) in
+      let m = from_map (λ (t : Touched). t.part.now) part order (Contains-permutation (filter (has_record now) parts) (parts_of order) part same (in_filter (has_record now) part parts (k, p.0, p.1) e)) in
       let at : IsAt parts m.0.index m.0.part.now = found parts order each m.0 m.1 in
       inl (m.0, m.1, one k part p e m.0.index (subst (λ q. IsAt parts m.0.index q) (sym m.2) at))
   among k part p false e = inr (let l = ltb-false 0 (records_of now part) e in omega (arith, l))

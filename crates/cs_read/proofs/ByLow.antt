@@ -4,6 +4,7 @@ use Rattle.std.specs.declared.cmp.Ordering.{Ordering}
 use Rattle.std.specs.declared.cmp.Ordering.TheVariants.{Less, Equal, Greater}
 use Rattle.std.specs.Ordering.{is_lt}
 use Rattle.std.specs.Cmp.Lexicographic.{nat_list_cmp_total}
+use Rattle.cs_types.specs.Members.{Pairwise, in_nil, in_head, in_tail, in_cons, in_filter, from_filter, filter_shorter, pairs_to, pairs_from, pairs_two, pairs_filter, pairs_weaker}
 use Rattle.cs_place.specs.declared.place.Place.{Place}
 use Rattle.cs_place.specs.declared.part.Part.{Part}
 use Rattle.cs_place.specs.Held.{live_is}
@@ -12,7 +13,6 @@ use Rattle.cs_place.specs.Part.{is_below, is_live, IsLive}
 use Rattle.cs_partitions.specs.Layout.{IsLower}
 use Rattle.cs_partitions.specs.Views.{AreLiveByLow}
 use Rattle.cs_steps.specs.Steps.{put_by_low, by_low}
-use Rattle.cs_read.proofs.Members.{in_nil, in_head, in_tail, in_cons, in_filter, from_filter, filter_shorter, Pairwise, pairs_to, pairs_from, pairs_two, pairs_filter, pairs_weaker}
 
 is_less : (o : Ordering) → is_lt o ≡ true → o ≡ Less
 is_less Less e = refl

@@ -2,10 +2,10 @@
 use Rattle.std.proofs.Common.{◌≡◌, ℕ, suc, ◌<◌, Bool, true, false, cond, List, [], ◌∷◌, Option, None, Some, length, refl, sym, ap, ◌∙◌, subst, arith, Contains}
 use Rattle.cs_types.specs.Names.{is_same}
 use Rattle.cs_types.specs.Exact.{same_name-is}
+use Rattle.cs_types.specs.Members.{in_head, in_tail}
 use Rattle.cs_place.specs.declared.part.Part.{Part}
 use Rattle.cs_partitions.specs.Reshape.{part_named, index_named, next_index}
 use Rattle.cs_steps.specs.Cursor.{IsAt}
-use Rattle.cs_read.proofs.Members.{in_head, in_tail}
 
 same_index : (a b : ℕ) → Some a ≡ Some b → a ≡ b
 same_index a b e = cc

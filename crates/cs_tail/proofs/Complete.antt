@@ -3,6 +3,7 @@ use Rattle.std.proofs.Common.{◌≡◌, ◌≢◌, ◌⊎◌, ℕ, ◌<◌, ◌
 use Rattle.std.proofs.lemmas.Bool.{cases_Bool}
 use Rattle.cs_types.specs.declared.names.Window.{Window}
 use Rattle.cs_types.specs.Stamp.{IsStamp}
+use Rattle.cs_types.specs.Members.{bytes_same, bytes_itself, in_nil, in_head, in_tail, in_cons, in_map}
 use Rattle.cs_place.specs.declared.part.Part.{Part}
 use Rattle.cs_link.specs.declared.batch.Batch.{Batch}
 use Rattle.cs_link.specs.declared.batch.Limits.{Limits}
@@ -39,7 +40,6 @@ use Rattle.cs_tail.proofs.Honest.{judge_faithful, first_faithful}
 use Rattle.cs_tail.proofs.Rows.{row_at}
 use Rattle.cs_tail.specs.Due.{AreFree, IsLeaseOf, IsOrphan}
 use Rattle.std.specs.Option.{unwrap_or}
-use Rattle.cs_tail.proofs.Tools.{in_nil, in_head, in_tail, in_cons, in_map, bytes_same, bytes_itself}
 use Rattle.cs_tail.proofs.Refusals.{IsTimely, refused_rightly, lease_timely, lease_fits, within_limit}
 use Rattle.cs_tail.proofs.Waiting.{waits_for}
 use Rattle.cs_tail.proofs.Work.{lease_end}

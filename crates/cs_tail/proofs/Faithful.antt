@@ -2,6 +2,7 @@
 use Rattle.std.proofs.Common.{◌≡◌, ◌⊎◌, List, [], ◌∷◌, ◌++◌, Option, Some, None, Ok, inl, inr, sym, refl, ap, ◌∙◌, subst, append-nil, Contains, true, false, map, ⊎_elim}
 use Rattle.std.specs.Prelude.{IfSome}
 use Rattle.cs_types.specs.declared.names.Window.{Window}
+use Rattle.cs_types.specs.Members.{in_nil, in_map, from_map}
 use Rattle.cs_link.specs.declared.batch.Batch.{Batch}
 use Rattle.cs_link.specs.declared.feed.Feed.{Feed}
 use Rattle.cs_link.specs.Batch.{IsFaithfulFirst, IsFaithfulPart, IsFaithfulOf, IsFaithful}
@@ -24,7 +25,6 @@ use Rattle.cs_tail.proofs.Kept.{Lasts, ends_last, brings_last, idles_last, opene
 use Rattle.cs_tail.proofs.Owning.{moved_own}
 use Rattle.cs_tail.proofs.Planned.{Ends, Brings, Idles, planned_ok, entry_cases}
 use Rattle.cs_tail.proofs.Refusals.{same_part}
-use Rattle.cs_tail.proofs.Tools.{in_nil, in_map, from_map}
 use Rattle.cs_tail.specs.declared.lease.Lease.{Lease}
 use Rattle.cs_tail.specs.declared.outcome.Outcome.{Outcome}
 use Rattle.cs_tail.specs.declared.turn.Turn.{Turn}

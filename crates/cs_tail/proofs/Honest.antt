@@ -19,17 +19,17 @@ use Rattle.cs_link.specs.Feed.{IsFeed}
 use Rattle.cs_link.specs.Batch.{IsFaithfulFirst, IsFaithfulPart}
 use Rattle.cs_schedule.specs.declared.row.Row.{Row}
 use Rattle.cs_schedule.specs.Board.{IsOrdered, row_of}
-use Rattle.cs_schedule.specs.Consistent.{Pairwise, IsRowOf, birth_of, known_by, news, through_by}
+use Rattle.cs_schedule.specs.Consistent.{IsRowOf, birth_of, known_by, news, through_by}
 use Rattle.cs_schedule.specs.Follows.{IsFollowed}
 use Rattle.cs_schedule.specs.Plan.{is_other, other_than, first_other, crowded_by, has_no, count_new, count_after, too_many, seen_with, judge, judge_with}
 use Rattle.cs_types.specs.declared.names.Window.{Window}
+use Rattle.cs_types.specs.Members.{Pairwise, in_nil, in_head, in_tail, from_filter, pairs_from, pairs_append, pairs_filter, in_map, from_map}
 use Rattle.cs_tail.specs.Own.{HasOwn}
 use Rattle.cs_tail.proofs.Owning.{own_few, with_own}
 use Rattle.cs_tail.proofs.Pigeon.{no_more}
 use Rattle.cs_tail.proofs.Refusals.{same_part}
 use Rattle.cs_tail.proofs.Rows.{token_of, row_at}
-use Rattle.cs_tail.proofs.Tools.{in_nil, in_head, in_tail, from_filter, in_map, from_map, map_length, below_apart, token_itself, lt_true}
-use Rattle.cs_tail.proofs.Work.{to_pairs}
+use Rattle.cs_tail.proofs.Tools.{map_length, below_apart, token_itself, lt_true}
 
 -- ---- children are named as their rows
 
@@ -92,21 +92,6 @@ pairs_map : {A B : Type 0} (R : A → A → Type 0) (S : B → B → Type 0) (g 
 pairs_map R S g [] f h = tt
 pairs_map R S g (x ∷ xs) f h = (λ b j. let u = from_map g b xs j in subst (λ z. S (g x) z) (sym u.2) (f x u.0 (h.0 u.0 u.1)), pairs_map R S g xs f h.1)
 
-pairs_filter : {A : Type 0} (R : A → A → Type 0) (p : A → Bool) (xs : List A) → Pairwise R xs → Pairwise R (filter p xs)
-pairs_filter R p [] h = tt
-pairs_filter R p (x ∷ xs) h = by (p x) (pairs_filter R p xs h.1)
-  where
-    by : (b : Bool) → Pairwise R (filter p xs) → Pairwise R (cond b (x ∷ filter p xs) (filter p xs))
-    by true k = (λ y j. h.0 y (from_filter p y xs j).0, k)
-    by false k = k
-
-pairs_append : {A : Type 0} (R : A → A → Type 0) (xs ys : List A) → Pairwise R xs → Pairwise R ys → ((x y : A) → Contains xs x → Contains ys y → R x y) → Pairwise R (xs ++ ys)
-pairs_append R [] ys h k c = k
-pairs_append R (x ∷ xs) ys h k c = (
-  λ y j. ⊎_elim (λ (l : Contains xs y). h.0 y l) (λ (r : Contains ys y). c x y (in_head x xs) r) (Contains-append_cases xs ys y j),
-  pairs_append R xs ys h.1 k (λ a b i j. c a b (in_tail x a xs i) j),
-)
-
 no_row : (rows : List Row) (t : List ℕ) → has_no (row_of rows t) ≡ true → row_of rows t ≡ None
 no_row rows t h = by (row_of rows t) h
   where
@@ -159,7 +144,7 @@ module _ (f : Feed) (w : Window) (followed : IsFollowed f w) (rows : List Row) (
   pub judge_faithful : (r : Row) → Contains rows r → (q : Part) → Contains f.parts q → r.token ≡ q.token → (x : Batch) → IsFaithfulPart f w.end (known_by r) q x → HasOwn f r → judge rows r x ≡ None
   judge_faithful r i q j its x P own =
       judged_none rows r x.children (through_by r x) (news r x) same (own_few f followed.feed q (suc (through_by r x)) (seen_with r (through_by r x) (news r x)) j (with_own f followed.feed w.end r q j its x P own))
-      (few_rows f followed.feed rows x.children O of_part of_child (to_pairs (λ (y z : NewChild). y.token ≢ z.token) x.children P.once))
+      (few_rows f followed.feed rows x.children O of_part of_child (pairs_from (λ (y z : NewChild). y.token ≢ z.token) x.children P.once))
     where
       of_child : (y : NewChild) → Contains x.children y → (c : Part) × Contains f.parts c × (y.token ≡ c.token)
       of_child y k = let u = ((P.children y).0 k).1 in (u.child, u.there, ap (λ (z : NewChild). z.token) u.same)
@@ -201,4 +186,4 @@ module _ (f : Feed) (w : Window) (followed : IsFollowed f w) (rows : List Row) (
       not_over rows x.children
       (few_rows f followed.feed rows x.children O of_part
       (λ y k. let u = (P.children y).0 k in (u.part, u.live.there, ap (λ (z : NewChild). z.token) u.same))
-      (to_pairs (λ (y z : NewChild). y.token ≢ z.token) x.children P.once))
+      (pairs_from (λ (y z : NewChild). y.token ≢ z.token) x.children P.once))

@@ -1,6 +1,7 @@
 -- What holds of all rows still holds of them behind an entry, and behind a try.
 use Rattle.std.proofs.Common.{◌≡◌, ◌⊎◌, ℕ, zero, suc, ◌≤◌, ◌-◌, ◌+◌, ◌*◌, Bool, true, false, not, List, [], ◌∷◌, Option, Some, None, ⊎_elim, inl, inr, sym, refl, ap, ◌∙◌, subst, arith, true≢false, map, length, Contains, bytes_eq}
 use Rattle.std.proofs.lemmas.Bool.{cases_Bool}
+use Rattle.cs_types.specs.Members.{bytes_same, bytes_itself, in_nil, in_head, in_tail, in_cons, from_filter, from_map}
 use Rattle.cs_link.specs.declared.batch.Batch.{Batch}
 use Rattle.cs_link.specs.declared.batch.NewChild.{NewChild}
 use Rattle.cs_schedule.specs.declared.entry.Entry.{Entry}
@@ -14,7 +15,6 @@ use Rattle.cs_tail.specs.Left.{row_left, row_most, rows_left, left_of}
 use Rattle.cs_tail.specs.Turn.{tried}
 use Rattle.cs_tail.proofs.Planned.{Ends, Brings, Idles}
 use Rattle.cs_tail.proofs.Rows.{puts_from, advanced_row, its, other, row_at}
-use Rattle.cs_tail.proofs.Tools.{in_nil, in_head, in_tail, in_cons, from_map, from_filter, bytes_same, bytes_itself}
 
 same_row : (rows : List Row) (a r : Row) → IsOrdered rows → Contains rows a → Contains rows r → a.token ≡ r.token → a ≡ r
 same_row rows a r O i j h = let same : Some a ≡ Some r = sym (row_at rows r.token a O i h) ∙ row_at rows r.token r O j refl in cc

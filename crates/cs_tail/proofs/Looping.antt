@@ -1,6 +1,7 @@
 -- The turns of a follower, one after another.
 use Rattle.std.proofs.Common.{◌≡◌, ◌≢◌, ℕ, suc, ◌≤◌, ◌-◌, Bool, true, false, true≢false, List, [], ◌∷◌, ◌++◌, map, Option, Some, refl, sym, ap, subst, ◌∙◌, arith, Contains}
 use Rattle.cs_types.specs.declared.names.Window.{Window}
+use Rattle.cs_types.specs.Members.{in_nil, in_head}
 use Rattle.cs_link.specs.declared.feed.Feed.{Feed}
 use Rattle.cs_link.specs.declared.batch.Limits.{Limits}
 use Rattle.cs_link.specs.Causes.{one_more}
@@ -19,7 +20,6 @@ use Rattle.cs_tail.specs.declared.turn.Turn.TheVariants as turns
 use Rattle.cs_tail.specs.Cause.{raised}
 use Rattle.cs_tail.specs.Turn.{IsAfoot, StaysTold, StaysFollowing, IsStopped, GoesOn}
 use Rattle.cs_tail.proofs.Causes.{caught_from}
-use Rattle.cs_tail.proofs.Tools.{in_nil, in_head}
 
 pub raised_next : (turns left count now next : ℕ) → 1 ≤ left → left ≤ turns → now ≡ raised (turns - left) count → next ≡ one_more now → next ≡ raised (turns - (left - 1)) count
 raised_next turns left count now next some most is one =

@@ -3,6 +3,7 @@ use Rattle.std.proofs.Common.{◌≡◌, ℕ, suc, ◌<◌, ◌≤◌, ◌+◌, 
 use Rattle.std.proofs.Math.Nat.{add-mul}
 use Rattle.std.proofs.lemmas.Bool.{cases_lt, eq-eqb}
 use Rattle.cs_types.specs.declared.change.Change.{Change}
+use Rattle.cs_types.specs.Members.{in_filter, from_filter}
 use Rattle.cs_link.specs.declared.batch.Batch.{Batch}
 use Rattle.cs_link.specs.Batch.{seen_of, is_known}
 use Rattle.cs_schedule.specs.declared.entry.Entry.{Entry}
@@ -14,7 +15,7 @@ use Rattle.cs_schedule.specs.Update.{applied}
 use Rattle.cs_tail.specs.Left.{row_left, row_most, rows_left, left_of}
 use Rattle.cs_tail.proofs.Planned.{Ends, Brings, Idles, judged_parts, not_too_many, not_crowded, some_of}
 use Rattle.cs_tail.proofs.Rows.{puts_length, puts_left, all_born_left, advanced_row, its, moved_left, rowless_length}
-use Rattle.cs_tail.proofs.Tools.{in_filter, from_filter, map_length, some_length, le_false}
+use Rattle.cs_tail.proofs.Tools.{map_length, some_length, le_false}
 
 -- rows that are new are paid for by those that there may still be
 pub paid : (e : ℕ) (before k : ℕ) (old new rest : ℕ) → before + k ≤ 65536 → new + k ≤ k * row_most e → rest + 1 ≤ old + k → (65536 - (k + before)) * row_most e + (new + rest) < (65536 - before) * row_most e + old

@@ -5,6 +5,7 @@ use Rattle.std.specs.Cmp.Lexicographic.{slice_cmp}
 use Rattle.std.specs.declared.cmp.Ordering.{Ordering}
 use Rattle.std.specs.declared.cmp.Ordering.TheVariants.{Less, Equal, Greater}
 use Rattle.std.proofs.lemmas.Bool.{and_parts}
+use Rattle.cs_types.specs.Members.{bytes_same, bytes_itself, in_nil, in_head, in_tail, in_cons, in_map}
 use Rattle.cs_link.specs.declared.batch.NewChild.{NewChild}
 use Rattle.cs_schedule.specs.declared.entry.Entry.{Entry}
 use Rattle.cs_schedule.specs.declared.entry.Entry.TheVariants.{Opened}
@@ -17,7 +18,7 @@ use Rattle.cs_tail.specs.Left.{row_most, rows_left, left_of}
 use Rattle.cs_tail.proofs.Lowering.{paid}
 use Rattle.cs_tail.proofs.Planned.{not_too_many}
 use Rattle.cs_tail.proofs.Rows.{puts_length, puts_left, all_born_left}
-use Rattle.cs_tail.proofs.Tools.{Below, in_nil, in_head, in_tail, in_cons, in_map, map_length, bytes_same, bytes_itself, below_apart, below_trans}
+use Rattle.cs_tail.proofs.Tools.{Below, map_length, below_apart, below_trans}
 
 -- ---- rising tokens are no more than the list that has them all
 

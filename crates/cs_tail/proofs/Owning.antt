@@ -9,6 +9,7 @@ use Rattle.std.specs.Cmp.Lexicographic.{slice_cmp}
 use Rattle.cs_types.specs.Exact.{same_row-is}
 use Rattle.cs_types.specs.Row.{row_cmp}
 use Rattle.cs_types.specs.declared.change.Change.{Change}
+use Rattle.cs_types.specs.Members.{Pairwise, in_nil, in_head, in_tail, in_cons, in_filter, from_filter, pairs_from, pairs_append, pairs_two, pairs_filter, in_map, from_map}
 use Rattle.cs_place.specs.declared.part.Part.{Part}
 use Rattle.cs_place.specs.Part.{is_held}
 use Rattle.cs_place.specs.Held.{held_is}
@@ -18,14 +19,12 @@ use Rattle.cs_link.specs.declared.feed.Feed.{Feed}
 use Rattle.cs_link.specs.Batch.{seen_of, seen_cmp, is_seen, is_known, IsFaithfulPart}
 use Rattle.cs_link.specs.Feed.{place_of, IsOf, is_of_at, IsFeed}
 use Rattle.cs_schedule.specs.declared.row.Row.{Row}
-use Rattle.cs_schedule.specs.Consistent.{Pairwise, known_by, news, through_by}
+use Rattle.cs_schedule.specs.Consistent.{known_by, news, through_by}
 use Rattle.cs_schedule.specs.Plan.{seen_with}
 use Rattle.cs_tail.specs.Own.{AreOwn, HasOwn}
 use Rattle.cs_tail.proofs.Pigeon.{no_more}
-use Rattle.cs_tail.proofs.Refusals.{pairs_two}
 use Rattle.cs_tail.proofs.Rows.{advanced_row}
-use Rattle.cs_tail.proofs.Tools.{in_nil, in_head, in_tail, in_cons, in_filter, from_filter, in_map, from_map, map_length, token_itself}
-use Rattle.cs_tail.proofs.Work.{to_pairs}
+use Rattle.cs_tail.proofs.Tools.{map_length, token_itself}
 
 then_equal : (o p : Ordering) → is_eq o ≡ true → is_eq p ≡ true → is_eq (ordering_then o p) ≡ true
 then_equal Less p h k = absurd (true≢false (sym h))
@@ -43,21 +42,6 @@ in_seen (n ∷ names) c i =
     (λ (j : Contains names (seen_of c)). or_right (is_eq (seen_cmp (seen_of c) n)) (is_seen names c) (in_seen names c j))
     (in_cons n (seen_of c) names i)
 
-pairs_append : {A : Type 0} (R : A → A → Type 0) (xs ys : List A) → Pairwise R xs → Pairwise R ys → ((x y : A) → Contains xs x → Contains ys y → R x y) → Pairwise R (xs ++ ys)
-pairs_append R [] ys h k c = k
-pairs_append R (x ∷ xs) ys h k c = (
-  λ y j. ⊎_elim (λ (l : Contains xs y). h.0 y l) (λ (r : Contains ys y). c x y (in_head x xs) r) (Contains-append_cases xs ys y j),
-  pairs_append R xs ys h.1 k (λ a b i j. c a b (in_tail x a xs i) j),
-)
-
-pairs_filter : {A : Type 0} (R : A → A → Type 0) (p : A → Bool) (xs : List A) → Pairwise R xs → Pairwise R (filter p xs)
-pairs_filter R p [] h = tt
-pairs_filter R p (x ∷ xs) h = by (p x) (pairs_filter R p xs h.1)
-  where
-    by : (b : Bool) → Pairwise R (filter p xs) → Pairwise R (cond b (x ∷ filter p xs) (filter p xs))
-    by true k = (λ y j. h.0 y (from_filter p y xs j).0, k)
-    by false k = k
-
 pairs_map : {A B : Type 0} (R : A → A → Type 0) (S : B → B → Type 0) (g : A → B) (xs : List A) → ((x y : A) → Contains xs x → Contains xs y → R x y → S (g x) (g y)) → Pairwise R xs → Pairwise S (map g xs)
 pairs_map R S g [] f h = tt
 pairs_map R S g (x ∷ xs) f h = (
@@ -73,7 +57,7 @@ same_name f F c d i j e =
     ⊎_elim
     (λ (s : c ≡ d). s)
     (λ (r : (c.tx ≡ d.tx → c.row ≢ d.row) ⊎ (d.tx ≡ c.tx → d.row ≢ c.row)). ⊎_elim (λ (n : c.tx ≡ d.tx → c.row ≢ d.row). absurd (n tx row)) (λ (n : d.tx ≡ c.tx → d.row ≢ c.row). absurd (n (sym tx) (sym row))) r)
-    (pairs_two (λ (x y : Change). x.tx ≡ y.tx → x.row ≢ y.row) f.wanted (to_pairs (λ (x y : Change). x.tx ≡ y.tx → x.row ≢ y.row) f.wanted F.names) c d i j)
+    (pairs_two (λ (x y : Change). x.tx ≡ y.tx → x.row ≢ y.row) f.wanted (pairs_from (λ (x y : Change). x.tx ≡ y.tx → x.row ≢ y.row) f.wanted F.names) c d i j)
 
 -- names of a part's changes at a moment are few
 pub own_few : (f : Feed) → IsFeed f → (q : Part) (m : ℕ) (names : List Seen) → Contains f.parts q → AreOwn f q m names → length names ≤ 1024
@@ -111,7 +95,7 @@ module _ (f : Feed) (F : IsFeed f) (e : ℕ) (r : Row) (q : Part) (there : Conta
   new_once : (m : ℕ) → Pairwise (λ a b. a ≢ b) (map seen_of (at m))
   unfolding at
   new_once m =
-      let all : Pairwise (λ (c d : Change). (c ≢ d) × (c.stamp ≤ d.stamp)) x.changes = to_pairs (λ (c d : Change). (c ≢ d) × (c.stamp ≤ d.stamp)) x.changes P.order in
+      let all : Pairwise (λ (c d : Change). (c ≢ d) × (c.stamp ≤ d.stamp)) x.changes = pairs_from (λ (c d : Change). (c ≢ d) × (c.stamp ≤ d.stamp)) x.changes P.order in
       let some = pairs_filter (λ (c d : Change). (c ≢ d) × (c.stamp ≤ d.stamp)) (λ c. eqb c.stamp m) (news r x) (pairs_filter (λ (c d : Change). (c ≢ d) × (c.stamp ≤ d.stamp)) (λ c. not (is_known (known_by r) c)) x.changes all) in
       pairs_map (λ (c d : Change). (c ≢ d) × (c.stamp ≤ d.stamp)) (λ a b. a ≢ b) seen_of (at m)
       (λ c d i j h same. h.0 (same_name f F c d (new_of m c i).0.wanted (new_of m d j).0.wanted same)) some

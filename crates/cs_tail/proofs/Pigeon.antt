@@ -1,7 +1,6 @@
 -- Different elements of a list are no more than the list has.
 use Rattle.std.proofs.Common.{◌≡◌, ◌≢◌, ⊎_elim, ℕ, zero, suc, ◌<◌, ◌≤◌, List, [], ◌∷◌, length, get_or, sym, refl, subst, ap, ◌∙◌, arith, Contains}
-use Rattle.cs_schedule.specs.Consistent.{Pairwise}
-use Rattle.cs_tail.proofs.Tools.{in_nil, in_head, in_tail, in_cons}
+use Rattle.cs_types.specs.Members.{Pairwise, in_nil, in_head, in_tail, in_cons}
 
 module _ {A : Type 0} where
   -- the list without the element at a place

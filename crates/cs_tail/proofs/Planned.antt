@@ -2,6 +2,7 @@
 use Rattle.std.proofs.Common.{◌≡◌, ◌⊎◌, ℕ, suc, ◌≤◌, ◌+◌, Bool, true, false, cond, not, ◌&&◌, List, [], ◌∷◌, Option, Some, None, Ok, inl, inr, sym, refl, ap, ◌∙◌, arith, true≢false, filter, length, Contains, nat_lt, nat_le, eqb}
 use Rattle.std.specs.Option.{option_or}
 use Rattle.cs_types.specs.declared.change.Change.{Change}
+use Rattle.cs_types.specs.Members.{in_nil, in_head}
 use Rattle.cs_link.specs.declared.batch.Batch.{Batch}
 use Rattle.cs_link.specs.declared.batch.NewChild.{NewChild}
 use Rattle.cs_link.specs.declared.breach.Breach.{Breach}
@@ -11,7 +12,7 @@ use Rattle.cs_schedule.specs.declared.row.Row.{Row}
 use Rattle.cs_schedule.specs.Board.{row_of}
 use Rattle.cs_schedule.specs.Consistent.{is_end, news, through_by}
 use Rattle.cs_schedule.specs.Plan.{first_other, crowded_by, count_new, count_after, too_many, seen_with, judge, judge_with, judged, has_change, entry_with, planned, planned_of}
-use Rattle.cs_tail.proofs.Tools.{in_nil, in_head, lt_false}
+use Rattle.cs_tail.proofs.Tools.{lt_false}
 
 or_none : (a b : Option Breach) → option_or a b ≡ None → (a ≡ None) × (b ≡ None)
 or_none None b h = (refl, h)

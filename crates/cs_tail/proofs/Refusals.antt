@@ -1,5 +1,5 @@
 -- A READ that is due over the rows of consistent entries is not refused by an honest server that still keeps the window's start.
-use Rattle.std.proofs.Common.{◌≡◌, ◌≢◌, ◌⊎◌, ℕ, suc, ◌<◌, ◌≤◌, ◌-◌, max, Bool, true, false, cond, List, [], ◌∷◌, Option, Some, None, ⊎_elim, inl, inr, sym, refl, ◌∙◌, subst, arith, Contains, nat_lt}
+use Rattle.std.proofs.Common.{◌≡◌, ◌≢◌, ◌⊎◌, ℕ, suc, ◌<◌, ◌≤◌, max, Bool, true, false, cond, List, Option, Some, None, ⊎_elim, inl, inr, sym, refl, ◌∙◌, subst, arith, Contains, nat_lt}
 use Rattle.cs_types.specs.declared.names.Window.{Window}
 use Rattle.cs_place.specs.declared.part.Part.{Part}
 use Rattle.cs_place.specs.Part.{IsBefore}
@@ -10,34 +10,25 @@ use Rattle.cs_link.specs.Batch.{limit}
 use Rattle.cs_link.specs.Feed.{IsFeed}
 use Rattle.cs_link.specs.Refusal.{IsRefusedBy}
 use Rattle.cs_types.specs.declared.change.Change.{Change}
+use Rattle.cs_types.specs.Members.{pairs_from, pairs_two}
 use Rattle.cs_schedule.specs.declared.row.Row.{Row}
 use Rattle.cs_schedule.specs.Board.{fresh}
-use Rattle.cs_schedule.specs.Consistent.{Pairwise, IsRight}
+use Rattle.cs_schedule.specs.Consistent.{IsRight}
 use Rattle.cs_schedule.specs.Follows.{IsFollowed}
 use Rattle.cs_tail.specs.declared.lease.Lease.{Lease}
 use Rattle.cs_tail.specs.Due.{IsLeaseOf}
 use Rattle.cs_tail.specs.Rightly.{MayBeRefused}
 use Rattle.cs_tail.specs.Lease.{row_lease, first_lease}
-use Rattle.cs_tail.proofs.Tools.{in_nil, in_cons, lt_false}
+use Rattle.cs_tail.proofs.Tools.{lt_false}
 use Rattle.cs_fetch.specs.Laws.{Fits}
-use Rattle.cs_tail.proofs.Work.{to_pairs, row_fits}
-
-pub pairs_two : {A : Type 0} (R : A → A → Type 0) (xs : List A) → Pairwise R xs → (x y : A) → Contains xs x → Contains xs y → (x ≡ y) ⊎ (R x y ⊎ R y x)
-pairs_two R [] h x y i j = absurd (in_nil x i)
-pairs_two R (z ∷ xs) h x y i j = by (in_cons z x xs i) (in_cons z y xs j) (pairs_two R xs h.1 x y)
-  where
-    by : (x ≡ z) ⊎ Contains xs x → (y ≡ z) ⊎ Contains xs y → (Contains xs x → Contains xs y → (x ≡ y) ⊎ (R x y ⊎ R y x)) → (x ≡ y) ⊎ (R x y ⊎ R y x)
-    by (inl a) (inl b) f = inl (a ∙ sym b)
-    by (inl a) (inr k) f = inr (inl (subst (λ w. R w y) (sym a) (h.0 y k)))
-    by (inr k) (inl b) f = inr (inr (subst (λ w. R w x) (sym b) (h.0 x k)))
-    by (inr k) (inr l) f = f k l
+use Rattle.cs_tail.proofs.Work.{row_fits}
 
 pub same_part : (f : Feed) → IsFeed f → (a b : Part) → Contains f.parts a → Contains f.parts b → a.token ≡ b.token → a ≡ b
 same_part f F a b i j e =
     ⊎_elim
     (λ (s : a ≡ b). s)
     (λ (r : (a.token ≢ b.token) ⊎ (b.token ≢ a.token)). ⊎_elim (λ (n : a.token ≢ b.token). absurd (n e)) (λ (n : b.token ≢ a.token). absurd (n (sym e))) r)
-    (pairs_two (λ (x y : Part). x.token ≢ y.token) f.parts (to_pairs (λ (x y : Part). x.token ≢ y.token) f.parts F.layout.tokens) a b i j)
+    (pairs_two (λ (x y : Part). x.token ≢ y.token) f.parts (pairs_from (λ (x y : Part). x.token ≢ y.token) f.parts F.layout.tokens) a b i j)
 
 -- what the start of a READ meets: it is in the window, and where it is of a part, in the part
 pub record IsTimely (f : Feed) (w : Window) (args : ReadArgs) : Type 0 where

@@ -4,13 +4,14 @@ use Rattle.std.proofs.Math.Nat.{add-mul}
 use Rattle.std.specs.Ordering.{nat_cmp, is_lt}
 use Rattle.std.specs.Cmp.Lexicographic.{slice_cmp}
 use Rattle.cs_types.specs.declared.change.Change.{Change}
+use Rattle.cs_types.specs.Members.{bytes_same, bytes_itself, in_nil, in_head, in_tail, in_cons}
 use Rattle.cs_link.specs.declared.batch.NewChild.{NewChild}
 use Rattle.cs_schedule.specs.declared.row.Row.{Row}
 use Rattle.cs_schedule.specs.Board.{IsOrdered, row_of, same_token}
 use Rattle.cs_schedule.specs.Consistent.{born, advanced, has_row, put_row, put_rows, rowless}
 use Rattle.cs_schedule.specs.Plan.{has_no, count_new, seen_with}
 use Rattle.cs_tail.specs.Left.{row_left, row_most, rows_left}
-use Rattle.cs_tail.proofs.Tools.{in_nil, in_head, in_tail, in_cons, bytes_same, bytes_itself, token_itself, token_equal, below_apart}
+use Rattle.cs_tail.proofs.Tools.{token_itself, token_equal, below_apart}
 
 -- ---- rows put among others
 

@@ -2,6 +2,7 @@
 use Rattle.std.proofs.Common.{◌≡◌, ◌⊎◌, ℕ, suc, ◌<◌, ◌≤◌, Bool, true, false, not, List, Option, Some, None, Ok, ⊎_elim, inl, inr, sym, refl, ap, ◌∙◌, subst, arith, true≢false, Contains}
 use Rattle.cs_types.specs.declared.change.Change.{Change}
 use Rattle.cs_types.specs.declared.names.Window.{Window}
+use Rattle.cs_types.specs.Members.{in_filter}
 use Rattle.cs_link.specs.declared.batch.Batch.{Batch}
 use Rattle.cs_link.specs.declared.batch.Ending.{Ending}
 use Rattle.cs_link.specs.declared.batch.Known.{Known}
@@ -25,7 +26,7 @@ use Rattle.cs_tail.proofs.Lowering.{finished_less, progress_less, idle_same}
 use Rattle.cs_tail.proofs.Opening.{opened_less}
 use Rattle.cs_tail.proofs.Planned.{Ends, Brings, Idles, planned_ok, entry_cases, has_some}
 use Rattle.cs_tail.proofs.Rows.{row_at}
-use Rattle.cs_tail.proofs.Tools.{in_filter, le_true}
+use Rattle.cs_tail.proofs.Tools.{le_true}
 
 -- what a plan makes of the rows: nothing is leased, all is within the window, and less is left, or as much where the batch caught up
 record Made (e : ℕ) (s : ℕ) (rows : List Row) (batch : Batch) (o : Option Entry) : Type 0 where

@@ -1,10 +1,10 @@
 -- Rows that wait, and what they wait for.
 use Rattle.std.proofs.Common.{◌≡◌, ⊎_elim, Bool, true, false, cond, not, ◌&&◌, List, ℕ, [], ◌∷◌, Some, None, sym, refl, ap, ◌∙◌, subst, true≢false, Contains}
 use Rattle.std.proofs.lemmas.Bool.{and_from}
+use Rattle.cs_types.specs.Members.{in_nil, in_head, in_tail, in_cons}
 use Rattle.cs_schedule.specs.declared.row.Row.{Row}
 use Rattle.cs_schedule.specs.Board.{has_ended, have_ended, may_read}
 use Rattle.cs_tail.specs.Due.{NoneMayRead, AreFree, AreFinished, first_unfinished, first_missing}
-use Rattle.cs_tail.proofs.Tools.{in_nil, in_head, in_tail, in_cons}
 
 pub waits_for : (rows : List Row) (r : Row) → first_unfinished rows ≡ Some r → Contains rows r × (r.finished ≡ false)
 waits_for [] r h = absurd cc

@@ -1,5 +1,5 @@
 -- What a lease and the batch of its READ meet.
-use Rattle.std.proofs.Common.{◌≡◌, ◌≢◌, ◌⊎◌, ℕ, suc, ◌<◌, ◌≤◌, Bool, true, false, cond, not, ◌&&◌, ◌||◌, List, [], ◌∷◌, ◌++◌, Some, None, ⊎_elim, inl, inr, sym, refl, ap, ◌∙◌, subst, arith, length, Contains, AllPairs, nat_lt, nat_le}
+use Rattle.std.proofs.Common.{◌≡◌, ◌≢◌, ◌⊎◌, ℕ, suc, ◌<◌, ◌≤◌, Bool, true, false, cond, not, ◌&&◌, ◌||◌, List, [], ◌∷◌, ◌++◌, Some, None, ⊎_elim, inl, inr, sym, refl, ap, ◌∙◌, subst, arith, length, Contains, nat_lt, nat_le}
 use Rattle.std.specs.Ordering.{nat_cmp, is_eq}
 use Rattle.std.specs.Cmp.Lexicographic.{slice_cmp}
 use Rattle.std.proofs.lemmas.Bool.{and_from}
@@ -7,6 +7,7 @@ use Rattle.std.proofs.lemmas.List.Elements.{Contains-append_cases}
 use Rattle.cs_types.specs.declared.change.Change.{Change}
 use Rattle.cs_types.specs.declared.names.Window.{Window}
 use Rattle.cs_types.specs.Stamp.{IsStamp}
+use Rattle.cs_types.specs.Members.{Pairwise, in_nil, in_head, in_tail, in_cons, pairs_from}
 use Rattle.cs_link.specs.declared.batch.Batch.{Batch}
 use Rattle.cs_link.specs.declared.batch.NewChild.{NewChild}
 use Rattle.cs_link.specs.Reading.{end_of}
@@ -14,7 +15,6 @@ use Rattle.cs_fetch.specs.Laws.{Fits, IsWithin as LeaseIsWithin, ListsFirst, Has
 use Rattle.cs_schedule.specs.declared.entry.Entry.{Entry}
 use Rattle.cs_schedule.specs.declared.row.Row.{Row}
 use Rattle.cs_schedule.specs.Board.{Shown, row_of}
-use Rattle.cs_schedule.specs.Consistent.{Pairwise}
 use Rattle.cs_schedule.specs.Follows.{MayAdd}
 use Rattle.cs_schedule.specs.Spelling.{begin_at, are_in_order, is_among, are_new}
 use Rattle.cs_tail.specs.declared.lease.Lease.{Lease}
@@ -23,15 +23,7 @@ use Rattle.cs_tail.specs.Format.{CanBeWritten}
 use Rattle.cs_tail.specs.Lease.{row_lease}
 use Rattle.cs_tail.specs.Turn.{IsAtWork}
 use Rattle.cs_tail.proofs.Rows.{row_at}
-use Rattle.cs_tail.proofs.Tools.{in_nil, in_head, in_tail, in_cons, lt_true, true_le, token_equal, some_length}
-
--- of pairs by their places
-pub to_pairs : {A : Type 0} (R : A → A → Type 0) (xs : List A) → AllPairs R xs → Pairwise R xs
-to_pairs R [] h = tt
-to_pairs R (x ∷ xs) h = (
-  λ y j. subst (λ z. R x z) j.2 (h 0 (suc j.0) y (omega arith) (omega (arith, j.1))),
-  to_pairs R xs (λ i j d a b. h (suc i) (suc j) d (omega arith) (omega arith)),
-)
+use Rattle.cs_tail.proofs.Tools.{lt_true, true_le, token_equal, some_length}
 
 begins : (n : ℕ) (cs : List Change) → ((c : Change) → Contains cs c → n ≤ c.stamp) → begin_at n cs ≡ true
 begins n [] h = refl
@@ -124,8 +116,8 @@ module _ (w : Window) (es : List Entry) (b : Shown) (lease : Lease) (first : 1 �
       within = subst (λ n. x.through ≤ n) (at_end ∙ sym ends) W.within;
       starts = λ y i. subst (λ n. y.start ≤ n) (at_end ∙ sym ends) (W.starts y i);
       range = let top = range.1 in omega (arith, top, ends);
-      order = in_order x.through x.changes (to_pairs (λ (c d : Change). c.stamp ≤ d.stamp) x.changes W.order) (λ c i. (W.top c i).0);
-      once = all_new [] x.children (λ y i u j. absurd (in_nil u j)) (to_pairs (λ (y z : NewChild). y.token ≢ z.token) x.children W.once);
+      order = in_order x.through x.changes (pairs_from (λ (c d : Change). c.stamp ≤ d.stamp) x.changes W.order) (λ c i. (W.top c i).0);
+      once = all_new [] x.children (λ y i u j. absurd (in_nil u j)) (pairs_from (λ (y z : NewChild). y.token ≢ z.token) x.children W.once);
       named = C.named;
       changes = C.changes;
       children = C.children;

@@ -2,6 +2,7 @@
 use Rattle.std.specs.Prelude.{◌≡◌, ◌≢◌, ℕ, List, Contains}
 use Rattle.cs_types.specs.declared.change.Change.{Change}
 use Rattle.cs_types.specs.declared.names.Window.{Window}
+use Rattle.cs_types.specs.Members.{Pairwise}
 use Rattle.cs_place.specs.declared.part.Part.{Part}
 use Rattle.cs_link.specs.declared.batch.Seen.{Seen}
 use Rattle.cs_link.specs.declared.feed.Feed.{Feed}
@@ -9,7 +10,7 @@ use Rattle.cs_link.specs.Batch.{seen_of}
 use Rattle.cs_link.specs.Feed.{IsOf}
 use Rattle.cs_schedule.specs.declared.entry.Entry.{Entry}
 use Rattle.cs_schedule.specs.declared.row.Row.{Row}
-use Rattle.cs_schedule.specs.Consistent.{Pairwise, IsConsistent}
+use Rattle.cs_schedule.specs.Consistent.{IsConsistent}
 use Rattle.cs_schedule.specs.Rows.{next_of, rows_of}
 
 -- names of wanted changes of a part at a moment, each once

@@ -3,8 +3,8 @@ use Rattle.std.proofs.Common.{◌≡◌, ◌≤◌, ◌<◌, ◌+◌, ℕ, zero,
 use Rattle.std.specs.List.Sorted.{IsStrictlyIncreasing}
 use Rattle.cs_types.specs.Change.{of_row}
 use Rattle.cs_types.specs.declared.change.Change.{Change}
+use Rattle.cs_types.specs.Members.{Pairwise}
 use Rattle.cs_output.specs.Output.{Line, of_watermark, changes_of_lines, watermarks_of_lines, CoversBelow, AreGood as LinesAreGood, AreComplete as LinesAreComplete}
-use Rattle.cs_schedule.specs.Consistent.{Pairwise}
 use Rattle.cs_schedule.specs.Outline.{Event, Changed, Watermark, changed, watermarks, AreGood, AreComplete}
 use Rattle.cs_text.specs.Output.{line_of_event}
 

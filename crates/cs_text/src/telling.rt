@@ -6,8 +6,7 @@ ghost use Rattle.cs_schedule.specs.Rows.{changes_in, low_watermark, Folds};
 ghost use Rattle.cs_schedule.specs.Spelling.{IsInFormat};
 ghost use Rattle.cs_text.specs.Adding.{mark_lines, mark_now, Tells};
 
-use crate::lines::Lines;
-use cs_output::{line_of, watermark_line};
+use cs_output::OutputText;
 use cs_schedule::{Board, Entry, boards_are_of_entries};
 use cs_types::{Change, Memory, Stamp};
 use std::alloc::Global;
@@ -16,7 +15,7 @@ use std::alloc::Global;
 #[derive(Debug, Drop)]
 pub(crate) struct Telling {
     pub board: Board,
-    pub lines: Lines,
+    pub lines: OutputText,
     pub marked: u64,
 }
 
@@ -31,33 +30,31 @@ fn changes_of(entry: &Entry) -> &[Change]
 }
 
 /// Adds the lines of changes.
-fn add_changes(alloc: Global, lines: &mut Lines, changes: &[Change]) -> Result<(), Memory>
+fn add_changes(lines: &mut OutputText, changes: &[Change]) -> Result<(), Memory>
     ensures { OnOk result (lines.new ≡ lines.old ++ text_of_lines (map of_change changes.now)) }
 {
     let mut rest = changes;
     'changes: while let [first, after @ ..] = rest {
-        let line = line_of(alloc, first)?;
-        lines.add(line.as_str())?;
+        lines.add_change(first)?;
         rest = after;
     }
     Ok(())
 }
 
 /// Adds the line of the watermark of a moment.
-fn add_watermark(alloc: Global, lines: &mut Lines, at: u64) -> Result<(), Memory>
+fn add_watermark(lines: &mut OutputText, at: u64) -> Result<(), Memory>
     requires { (1 ≤ at) × (at ≤ 253402300799999999) }
     ensures { OnOk result (lines.new ≡ lines.old ++ text_of_lines (of_watermark at ∷ [])) }
 {
     let Some(stamp) = Stamp::of(at) else {
         unreachable!();
     };
-    let line = watermark_line(alloc, stamp)?;
-    lines.add(line.as_str())
+    lines.add_watermark(stamp)
 }
 
 /// Adds the line of a watermark that is not below the moment that is marked, and gives the moment
 /// that then is.
-fn add_mark(alloc: Global, lines: &mut Lines, marked: u64, mark: Option<u64>) -> Result<u64, Memory>
+fn add_mark(lines: &mut OutputText, marked: u64, mark: Option<u64>) -> Result<u64, Memory>
     requires range { IfSome mark (λ n. n ≤ 253402300799999999) }
     requires least { 1 ≤ marked }
     ensures lines { OnOk result (lines.new ≡ lines.old ++ text_of_lines (mark_lines marked mark)) }
@@ -69,15 +66,14 @@ fn add_mark(alloc: Global, lines: &mut Lines, marked: u64, mark: Option<u64>) ->
     if at < marked {
         return Ok(marked);
     }
-    add_watermark(alloc, lines, at)?;
+    add_watermark(lines, at)?;
     Ok(at + 1)
 }
 
 /// Adds the lines of an entry, and of the watermark that then is, and gives the moment that is
 /// marked.
 fn add_lines(
-    alloc: Global,
-    lines: &mut Lines,
+    lines: &mut OutputText,
     entry: &Entry,
     marked: u64,
     mark: Option<u64>,
@@ -87,8 +83,8 @@ fn add_lines(
     ensures lines { OnOk result (lines.new ≡ lines.old ++ (text_of_lines (map of_change (changes_in entry.now)) ++ text_of_lines (mark_lines marked mark))) }
     ensures now { IfOk result (λ now. now ≡ mark_now marked mark) }
 {
-    add_changes(alloc, lines, changes_of(entry))?;
-    add_mark(alloc, lines, marked, mark)
+    add_changes(lines, changes_of(entry))?;
+    add_mark(lines, marked, mark)
 }
 
 /// The low watermark of a board.
@@ -115,6 +111,6 @@ pub(crate) fn tell_on(alloc: Global, telling: &mut Telling, entry: &Entry) -> Re
         return Ok(false);
     }
     let mark = mark_of(&telling.board);
-    telling.marked = add_lines(alloc, &mut telling.lines, entry, telling.marked, mark)?;
+    telling.marked = add_lines(&mut telling.lines, entry, telling.marked, mark)?;
     Ok(true)
 }

@@ -6,8 +6,8 @@ ghost use Rattle.cs_schedule.specs.Spelling.{IsInFormat};
 ghost use Rattle.cs_types.specs.declared.names.Window.{Window};
 ghost use Rattle.cs_text.specs.Output.{output_of};
 
-use crate::lines::Lines;
 use crate::telling::{Telling, tell_on};
+use cs_output::OutputText;
 use cs_schedule::{Board, Entry};
 use cs_types::{Memory, Text};
 use std::alloc::Global;
@@ -29,7 +29,7 @@ pub fn text_of(alloc: Global, entries: &[Entry]) -> Result<Text, Memory>
     };
     let mut telling = Telling {
         board: Board::begin(alloc, window)?,
-        lines: Lines::new(alloc),
+        lines: OutputText::new(alloc),
         marked: window.start.us(),
     };
     for place in 1..entries.len() {

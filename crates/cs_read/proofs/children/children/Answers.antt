@@ -4,10 +4,10 @@ use Rattle.std.proofs.lemmas.Result.{IfOk-weaker}
 use Rattle.cs_place.specs.declared.part.Part.{Part}
 use Rattle.cs_records.specs.declared.records.Child.{Child}
 use Rattle.cs_types.specs.Names.{is_among}
+use Rattle.cs_types.specs.Members.{filter_shorter}
 use Rattle.cs_partitions.specs.Layout.{first_part}
 use Rattle.cs_steps.specs.Steps.{by_low, child_of, children_of}
 use Rattle.cs_read.proofs.ByLow.{rising_stay}
-use Rattle.cs_read.proofs.Members.{filter_shorter}
 use Rattle.cs_read.proofs.children.children.Goals as goal
 
 pub returns-clause-children : goal.returns-clause-children

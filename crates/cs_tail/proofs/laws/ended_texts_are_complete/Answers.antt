@@ -1,9 +1,9 @@
 use Rattle.std.proofs.Common.{◌≢◌, List, [], ◌∷◌, map, refl, sym, ap, ◌∙◌, subst, Contains}
 use Rattle.cs_types.specs.declared.names.Window.{Window}
+use Rattle.cs_types.specs.Members.{in_head, in_map, from_map}
 use Rattle.cs_schedule.specs.declared.row.Row.{Row}
 use Rattle.cs_schedule.specs.Board.{fresh}
 use Rattle.cs_schedule.specs.Rows.{rows_of}
-use Rattle.cs_tail.proofs.Tools.{in_head, in_map, from_map}
 use Rattle.cs_tail.proofs.laws.ended_texts_are_complete.Goals as goal
 
 some_row : (rows : List Row) → rows ≢ [] → (r : Row) × Contains rows r
