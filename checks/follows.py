@@ -169,7 +169,7 @@ def check_row(note, room, is_explained, what, script, words, want, output):
     path = room.put("script", script)
     ran = room.run(["replay", path, "journal", "output", "S", *words])
     note(ran.returncode == status and ran.stdout.decode() == want + "\n" and is_explained(ran), f"replay, {what}", str(ran)[:400])
-    note(room.read("output") == output and room.read("journal") == b"", f"replay, {what}: output", room.read("output")[-400:])
+    note(room.left("output") == output and room.left("journal") == b"", f"replay, {what}: output", (room.left("output") or b"")[-400:])
     if status in (0, 10):
         marks = [it for it in output.decode().split("\n") if it.startswith('{"watermark"')]
         verdict = ENDED if status == 0 else f"11 Verdict Prefix {marks[-1][14:-2] if marks else '-'}"

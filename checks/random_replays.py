@@ -83,15 +83,15 @@ class Asked:
     def replay(self, script, words):
         self.room.clear()
         ran = self.room.run(["replay", self.room.put("script", script), "journal", "output", *words])
-        return ran, self.room.read("output")
+        return ran, self.room.left("output")
 
     def differs(self, script, words):
         """What is wrong with the program's answer to a replay, and with its check of what it wrote; None where nothing is."""
         own = model.replay(script, *words)
         ran, output = self.replay(script, words)
         if not (ran.returncode == own.status and ran.stdout.decode() == own.console and self.is_explained(ran) and output == own.output):
-            return f"{ran.stdout} and {output[-600:]}, the model {own.console!r} and {own.output[-600:]}, error {ran.stderr[:300]}"
-        if self.room.read("journal") != b"":
+            return f"{ran.stdout} and {(output or b'')[-600:]}, the model {own.console!r} and {own.output[-600:]}, error {ran.stderr[:300]}"
+        if self.room.left("journal") != b"":
             return "the journal is no longer empty"
         wanted = [it.line for it in model.changes(script, *words[:3])] if own.status in (0, 10) else []
         wrong = judge.wrong(own.status, output, wanted, words[2])
