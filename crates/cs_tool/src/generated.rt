@@ -83,8 +83,13 @@ fn placed<'a>(state: &'a ServerState, name: &Text) -> Option<(&'a Stream, &'a La
 {
     states_are_kept(state);
     let streams = state.catalog().streams();
-    let place = place_of(streams, name)?;
-    let (Some(stream), Some(layout)) = (streams.get(place), state.layouts().get(place)) else {
+    let Some(place) = place_of(streams, name) else {
+        return None;
+    };
+    let Some(stream) = streams.get(place) else {
+        unreachable!();
+    };
+    let Some(layout) = state.layouts().get(place) else {
         unreachable!();
     };
     Some((stream, layout))
