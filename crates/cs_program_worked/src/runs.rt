@@ -49,7 +49,10 @@ fn an_empty_window_is_a_watermark(rt: HostRuntime) -> Result<(), Fail> {
 
 #[test]
 fn a_moment_before_the_end_pauses(rt: HostRuntime) -> Result<(), Fail> {
-    assert_eq!(rt; plain(rt.alloc(), PAUSED_WORDS, INSERT, "")?.as_str(), PAUSED);
+    assert_eq!(rt;
+        plain(rt.alloc(), PAUSED_WORDS, INSERT, "")?.as_str(),
+        PAUSED
+    );
     Ok(())
 }
 
