@@ -118,11 +118,15 @@ fn record_of(alloc: Global, stamp: Stamp, tx: Text, mods: Items<Mod>) -> Result<
     })))
 }
 
+/// The id of the transaction of this number.
+fn tx(alloc: Global, number: u32) -> Result<Text, Memory> {
+    Text::from_string(format!(in alloc; "t{number}")?)
+}
+
 /// A record that tells the insert of one row so often. Its transaction has the number of the row.
 fn data(alloc: Global, seconds: u32, number: u32, count: u32) -> Result<Step, CellsFault> {
-    let tx = format!(in alloc; "t{number}").map_err(|_| CellsFault::Memory)?;
-    let tx = Text::from_string(tx).map_err(|_| CellsFault::Memory)?;
     let mods = mods(alloc, number, count)?;
+    let tx = tx(alloc, number)?;
     Ok(record_of(alloc, second(seconds)?, tx, mods)?)
 }
 

@@ -1,8 +1,7 @@
 use crate::answers::{Say, answer, children, link, second, step, token, tokens};
-use crate::reading::{args, limits};
+use crate::reading::read_once;
 use crate::telling::tell_fault;
-use cs_fetch::fetch;
-use cs_link::{Known, MemRead};
+use cs_link::MemRead;
 use cs_types::{CellsFault, Items, Memory, Token};
 use std::alloc::Global;
 use std::test::Fail;
@@ -17,13 +16,7 @@ fn tell_read(
     let mut reads = Items::new(alloc);
     reads.push(read)?;
     let mut link = link(alloc, reads)?;
-    let start = second(1)?;
-    let args = args(alloc, start, token)?;
-    let known = Known {
-        through: start.us() - 1,
-        seen: Items::new(alloc),
-    };
-    match fetch(alloc, &mut link, &args, &known, &limits()) {
+    match read_once(alloc, &mut link, second(1)?, token)? {
         Ok(_batch) => told.push_str("a batch")?,
         Err(fault) => tell_fault(alloc, told, &fault)?,
     }

@@ -1,4 +1,4 @@
-ghost use Rattle.std.specs.Prelude.{◌<◌, Contains, length};
+ghost use Rattle.std.specs.Prelude.{Contains};
 ghost use Rattle.cs_schedule.specs.declared.entry.Entry.{Entry as TheEntry};
 ghost use Rattle.cs_schedule.specs.Spelling.{IsInFormat};
 
@@ -79,9 +79,12 @@ fn tell_lowest(alloc: Global, told: &mut String, board: &Board) -> Result<(), Me
 
 /// The entries, each with what is furthest behind after it.
 fn tell_entries(alloc: Global, told: &mut String, entries: &[Entry]) -> Result<(), Memory>
-    requires { (e : TheEntry) → Contains entries.now e → IsInFormat e }
+    requires format { (e : TheEntry) → Contains entries.now e → IsInFormat e }
 {
-    let [Entry::Begin(window), ..] = entries else {
+    if entries.is_empty() {
+        return Ok(());
+    }
+    let Entry::Begin(window) = &entries[0] else {
         return Ok(());
     };
     let mut board = Board::begin(alloc, window)?;

@@ -2,14 +2,13 @@ ghost use Rattle.std.specs.Prelude.{◌≤◌};
 
 use crate::answers::second;
 use crate::following::{tell_run, window};
-use crate::reading::{args, limits};
+use crate::reading::read_once;
 use crate::scripts::{split_server, two_inserts};
 use crate::telling::{tell_moment, tell_number, tell_token};
-use cs_fetch::fetch;
-use cs_link::{Batch, Known};
+use cs_link::Batch;
 use cs_script::{LineCause, ServerState};
 use cs_server::ServerLink;
-use cs_types::{Items, Memory};
+use cs_types::Memory;
 use std::alloc::Global;
 use std::test::Fail;
 
@@ -80,13 +79,7 @@ fn tell_children(alloc: Global, told: &mut String, batch: &Batch) -> Result<(), 
 fn listed(alloc: Global, state: &ServerState) -> Result<String, Memory> {
     let mut told = String::new(alloc);
     let mut link = ServerLink::new(alloc, state, second(10)?);
-    let start = second(5)?;
-    let args = args(alloc, start, None)?;
-    let known = Known {
-        through: start.us() - 1,
-        seen: Items::new(alloc),
-    };
-    if let Ok(batch) = fetch(alloc, &mut link, &args, &known, &limits()) {
+    if let Ok(batch) = read_once(alloc, &mut link, second(5)?, None)? {
         tell_children(alloc, &mut told, &batch)?;
     }
     Ok(told)
