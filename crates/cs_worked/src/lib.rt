@@ -12,8 +12,6 @@ mod making;
 #[cfg(test)]
 mod parts;
 #[cfg(test)]
-mod redoing;
-#[cfg(test)]
 mod rows;
 #[cfg(test)]
 mod types;
