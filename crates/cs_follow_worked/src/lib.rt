@@ -1,0 +1,21 @@
+//! Worked answers of a follower: what it makes of servers that lie, of pages, splits and merges, tried on its public calls with ample memory. It has tests alone.
+#![tactic(auto)]
+
+#[cfg(test)]
+mod answers;
+#[cfg(test)]
+mod following;
+#[cfg(test)]
+mod lies;
+#[cfg(test)]
+mod merges;
+#[cfg(test)]
+mod reading;
+#[cfg(test)]
+mod scripts;
+#[cfg(test)]
+mod servers;
+#[cfg(test)]
+mod stops;
+#[cfg(test)]
+mod telling;
