@@ -4,16 +4,16 @@ ghost use Rattle.cs_output.specs.Output.{of_change, of_watermark, text_of_lines}
 ghost use Rattle.cs_schedule.specs.declared.entry.Entry.{Entry as TheEntry};
 ghost use Rattle.cs_schedule.specs.Rows.{changes_in, low_watermark, Folds};
 ghost use Rattle.cs_schedule.specs.Spelling.{IsInFormat};
-ghost use Rattle.cs_text.specs.Adding.{mark_lines, mark_now, Tells};
+ghost use Rattle.cs_text.specs.Adding.{mark_lines, mark_now, Tells, AreAdded};
 
 use cs_output::OutputText;
 use cs_schedule::{Board, Entry, boards_are_of_entries};
-use cs_types::{Change, Memory, Stamp};
+use cs_types::{Change, Memory, Stamp, Text};
 use std::alloc::Global;
 
 /// The board of entries, their lines, and the first moment behind the last watermark.
 #[derive(Debug, Drop)]
-pub(crate) struct Telling {
+pub struct Telling {
     pub board: Board,
     pub lines: OutputText,
     pub marked: u64,
@@ -97,8 +97,27 @@ fn mark_of(board: &Board) -> Option<u64>
     board.watermark()
 }
 
+/// What one entry more adds to an output: the lines of its changes, and that of the watermark where
+/// it then has risen. It gives the text, and the first moment behind the last watermark then.
+pub fn added_text(
+    alloc: Global,
+    entry: &Entry,
+    marked: u64,
+    mark: Option<u64>,
+) -> Result<(Text, u64), Memory>
+    requires range { IfSome mark (λ n. n ≤ 253402300799999999) }
+    requires least { 1 ≤ marked }
+    ensures added { IfOk result (λ r. AreAdded entry.now marked mark r.0 r.1) }
+    ensures least { IfOk result (λ r. 1 ≤ r.1) }
+{
+    let mut lines = OutputText::new(alloc);
+    let marked = add_lines(&mut lines, entry, marked, mark)?;
+    let text = lines.into_text()?;
+    Ok((text, marked))
+}
+
 /// Tells one entry more; false where it may not follow.
-pub(crate) fn tell_on(alloc: Global, telling: &mut Telling, entry: &Entry) -> Result<bool, Memory>
+pub fn tell_on(alloc: Global, telling: &mut Telling, entry: &Entry) -> Result<bool, Memory>
     requires least { 1 ≤ telling.old.marked }
     requires in_format { IsInFormat entry.now }
     ensures least { IfOk result (λ _. 1 ≤ telling.new.marked) }

@@ -1,0 +1,10 @@
+pub mod Claims
+pub mod Committed
+pub mod Kept
+pub mod Opened
+pub mod Payloads
+pub mod Planned
+pub mod Sound
+pub mod Tokens
+pub mod Tools
+pub mod Upto

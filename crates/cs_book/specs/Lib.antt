@@ -1,0 +1,11 @@
+pub mod Adding
+pub mod Book
+pub mod Claim
+pub mod Entries
+pub mod Faults
+pub mod Format
+pub mod Lease
+pub mod Opening
+pub mod Planned
+pub mod Reading
+pub mod Waiting

@@ -1,0 +1,13 @@
+pub mod Carried
+pub mod Enough
+pub mod Layouts
+pub mod Lookups
+pub mod Lowers
+pub mod Lows
+pub mod Moves
+pub mod Names
+pub mod Opens
+pub mod Pace
+pub mod Planned
+pub mod Sizes
+pub mod Sums
