@@ -5,6 +5,7 @@ pub mod Opened
 pub mod Payloads
 pub mod Planned
 pub mod Sound
+pub mod Still
 pub mod Tokens
 pub mod Tools
 pub mod Upto

@@ -1,6 +1,6 @@
 -- A book as contracts see it: a journal, the board of its entries, and the output that tells them. This project's own.
 use Rattle.std.specs.Prelude.{◌≡◌, ◌≤◌, ℕ, List, [], Bool, true, false, Option, None, Some, IfSome, Contains}
-use Rattle.cs_journal.specs.State.{JournalState}
+use Rattle.cs_journal.specs.State.{JournalState, WhereTold}
 use Rattle.cs_schedule.specs.declared.entry.Entry.{Entry}
 use Rattle.cs_schedule.specs.declared.row.Row.{Row}
 use Rattle.cs_schedule.specs.Board.{Shown, row_of, changed_there, given_back, place_of}
@@ -24,6 +24,10 @@ pub record BookState (J O : Type 0) : Type 0 where
   pub is_opening : Bool
   -- whether a call of the output has failed
   pub output_failed : Bool
+
+-- a disk that told its bytes tells bytes still
+abbrev pub StillTells : Option (List ℕ) → Option (List ℕ) → Type 0
+StillTells old new = WhereTold (λ old new. Unit {0}) old new
 
 -- neither disk has failed
 pub record IsRunning {J O : Type 0} (b : BookState J O) : Type 0 where

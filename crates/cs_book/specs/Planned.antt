@@ -11,7 +11,7 @@ use Rattle.cs_schedule.specs.declared.plan.PlanFault.TheVariants as plan
 use Rattle.cs_schedule.specs.Board.{Shown}
 use Rattle.cs_schedule.specs.Follows.{IsBoardOf, IsNextOf}
 use Rattle.cs_schedule.specs.Rows.{is_of}
-use Rattle.cs_schedule.specs.Spelling.{payload, are_in_order, are_new}
+use Rattle.cs_schedule.specs.Spelling.{payload, are_in_order, are_new, IsInFormat}
 use Rattle.cs_schedule.specs.Update.{PlansOf}
 use Rattle.cs_text.specs.Output.{added_by, marked_of}
 use Rattle.cs_types.specs.declared.names.Window.{Window}
@@ -70,5 +70,5 @@ pub record IsPlanFor {J O : Type 0} (b : BookState J O) (token : Option (List �
 abbrev pub Reserves : {J O : Type 0} → BookState J O → Batch → Result BookPlan ReserveFault → Type 0
 Reserves b x (Ok p) = PlansOf b.board.rows x x.token (Ok p.plan.entry)
 Reserves b x (Err (faults.Breach breach)) = PlansOf b.board.rows x x.token (Err (plan.Breach breach))
-Reserves b x (Err (faults.Full length)) = (e : Entry) × PlansOf b.board.rows x x.token (Ok (Some e)) × (length ≡ length_after b.journal.gate (payload e)) × (limit < length)
+Reserves b x (Err (faults.Full length)) = (e : Entry) × PlansOf b.board.rows x x.token (Ok (Some e)) × (length ≡ length_after b.journal.gate (payload e)) × (limit < length) × IsInFormat e
 Reserves b x (Err faults.Memory) = ⊤

@@ -7,7 +7,7 @@ ghost use Rattle.cs_schedule.specs.declared.entry.Entry.{Entry};
 ghost use Rattle.cs_schedule.specs.Follows.{IsNextOf};
 ghost use Rattle.cs_schedule.specs.Update.{applied};
 ghost use Rattle.cs_book.specs.declared.fault.CommitFault.TheVariants as faults;
-ghost use Rattle.cs_book.specs.Book.{IsRunning, AreEntriesOf, IsOut, rows_back, opening_back};
+ghost use Rattle.cs_book.specs.Book.{IsRunning, AreEntriesOf, IsOut, StillTells, rows_back, opening_back};
 ghost use Rattle.cs_book.specs.Entries.{HoldsEntries, HoldsBeforeOrAfter, with_entry, gate_after};
 ghost use Rattle.cs_book.specs.Planned.{IsPlanFor, AreAdditions, IsEntryFor};
 
@@ -37,6 +37,8 @@ impl<J: Disk, O: Disk> Book<J, O> {
         requires of { IsEntryFor token.now plan.entry }
         requires additions { AreAdditions self.old.board self.old.marked self.old.journal.gate plan.entry (Some addition) }
         ensures entries { OnOk result ((es : List Entry) → AreEntriesOf J.seen O.seen self.old es → AreEntriesOf J.seen O.seen self.new (with_entry es plan.entry)) }
+        // What told its bytes tells bytes still.
+        ensures still { OnOk result (StillTells (J.seen self.old.journal.disk) (J.seen self.new.journal.disk) × StillTells (O.seen self.old.output) (O.seen self.new.output)) }
         ensures running { OnOk result (IsRunning self.new) }
         ensures rows { OnOk result (self.new.board.rows ≡ rows_back token.now caught_up (applied self.old.board.window.start self.old.board.rows plan.entry)) }
         ensures gate { OnOk result (self.new.journal.gate ≡ gate_after self.old.journal.gate plan.entry) }
@@ -82,6 +84,8 @@ impl<J: Disk, O: Disk> Book<J, O> {
         requires plan { IsPlanFor self.old lease.args.token plan }
         // With Ok the entries are those from before, and behind them the plan's, where it has one.
         ensures entries { OnOk result ((es : List Entry) → AreEntriesOf J.seen O.seen self.old es → AreEntriesOf J.seen O.seen self.new (with_entry es plan.plan.entry)) }
+        // What told its bytes tells bytes still.
+        ensures still { OnOk result (StillTells (J.seen self.old.journal.disk) (J.seen self.new.journal.disk) × StillTells (O.seen self.old.output) (O.seen self.new.output)) }
         ensures running { OnOk result (IsRunning self.new) }
         ensures rows { OnOk result (self.new.board.rows ≡ rows_back lease.args.token plan.caught_up (applied self.old.board.window.start self.old.board.rows plan.plan.entry)) }
         ensures gate { OnOk result (self.new.journal.gate ≡ gate_after self.old.journal.gate plan.plan.entry) }

@@ -9,7 +9,7 @@ ghost use Rattle.cs_schedule.specs.declared.entry.Entry.{Entry as TheEntry};
 ghost use Rattle.cs_schedule.specs.declared.entry.Entry.TheVariants.{Begin};
 ghost use Rattle.cs_schedule.specs.Spelling.{payload, IsInFormat};
 ghost use Rattle.cs_book.specs.Waiting.{AreFree};
-ghost use Rattle.cs_book.specs.Book.{AreEntriesOf, IsRunning};
+ghost use Rattle.cs_book.specs.Book.{AreEntriesOf, IsRunning, StillTells};
 ghost use Rattle.cs_book.specs.Entries.{HoldsEntries};
 ghost use Rattle.cs_book.specs.Reading.{IsTold};
 ghost use Rattle.cs_book.specs.Opening.{IsOutputFault, IsReopenFault, IsBeginFault, IsFirstFault, IsOpenFault, IsRefusal, IsFrom, HoldsSameOrFirst, HoldsOldOrFirst, IfNothingIsWritten};
@@ -86,6 +86,8 @@ impl<J: Disk, O: Disk> Book<J, O> {
         ensures running { IfOk result (λ b. b.output_failed ≡ false) }
         ensures entries { IfOk result (λ b. (es : List TheEntry) → IfSome (J.seen journal.disk) (λ bytes. HoldsEntries bytes es) → IsTold telling es → AreEntriesOf J.seen O.seen b es) }
         ensures durable { IfOk result (λ b. IfSome (O.seen b.output) (LeavesOnly (O.crash b.output))) }
+        // What told its bytes tells bytes still.
+        ensures still { IfOk result (λ b. StillTells (J.seen journal.disk) (J.seen b.journal.disk) × StillTells (O.seen output) (O.seen b.output)) }
         ensures back { IfErr result (λ e. e.1 ≡ journal.disk) }
         ensures refused { IfErr result (λ e. IsOutputFault (O.faults output) e.0 (O.faults e.2)) }
         ensures object { MatchResult result (λ b. O.same output b.output) (λ e. O.same output e.2) }
@@ -137,6 +139,8 @@ impl<J: Disk, O: Disk> Book<J, O> {
         ensures running { IfOk result (λ b. b.output_failed ≡ false) }
         ensures entries { IfOk result (λ b. (es : List TheEntry) → IfSome (J.seen journal.disk) (λ bytes. HoldsEntries bytes es) → IsTold telling es → AreEntriesOf J.seen O.seen b es) }
         ensures durable { IfOk result (λ b. IfSome (O.seen b.output) (LeavesOnly (O.crash b.output))) }
+        // What told its bytes tells bytes still.
+        ensures still { IfOk result (λ b. StillTells (J.seen journal.disk) (J.seen b.journal.disk) × StillTells (O.seen output) (O.seen b.output)) }
         ensures back { IfErr result (λ e. e.1 ≡ journal.disk) }
         ensures refused { IfErr result (λ e. IsReopenFault telling.board.window window.now (O.faults output) e.0 (O.faults e.2)) }
         ensures stays { IfErr result (λ e. IfNothingIsWritten e.0 (Keeps (O.seen output) (O.seen e.2))) }
@@ -175,6 +179,8 @@ impl<J: Disk, O: Disk> Book<J, O> {
         ensures running { IfOk result IsRunning }
         ensures entries { IfOk result (λ b. AreEntriesOf J.seen O.seen b (Begin telling.board.window ∷ [])) }
         ensures durable { IfOk result (λ b. IfSome (O.seen b.output) (LeavesOnly (O.crash b.output))) }
+        // What told its bytes tells bytes still.
+        ensures still { IfOk result (λ b. StillTells (J.seen journal.disk) (J.seen b.journal.disk) × StillTells (O.seen output) (O.seen b.output)) }
         ensures any_moment { IfSome (J.seen journal.disk) (λ bytes. MatchResult result
             (λ b. CrashesLeave (HoldsSameOrFirst telling.board.window bytes) (J.crash journal.disk) (J.crash b.journal.disk))
             (λ e. CrashesLeave (HoldsSameOrFirst telling.board.window bytes) (J.crash journal.disk) (J.crash e.1))) }
@@ -206,6 +212,8 @@ impl<J: Disk, O: Disk> Book<J, O> {
         ensures running { IfOk result IsRunning }
         ensures entries { IfOk result (λ b. AreEntriesOf J.seen O.seen b (Begin window.now ∷ [])) }
         ensures durable { IfOk result (λ b. IfSome (O.seen b.output) (LeavesOnly (O.crash b.output))) }
+        // What told its bytes tells bytes still.
+        ensures still { IfOk result (λ b. StillTells (J.seen journal.disk) (J.seen b.journal.disk) × StillTells (O.seen output) (O.seen b.output)) }
         ensures any_moment { IfSome (J.seen journal.disk) (λ bytes. MatchResult result
             (λ b. CrashesLeave (HoldsSameOrFirst window.now bytes) (J.crash journal.disk) (J.crash b.journal.disk))
             (λ e. CrashesLeave (HoldsSameOrFirst window.now bytes) (J.crash journal.disk) (J.crash e.1))) }
@@ -255,6 +263,8 @@ impl<J: Disk, O: Disk> Book<J, O> {
         ensures running { IfOk result IsRunning }
         ensures entries { IfOk result (λ b. (es : List TheEntry) × AreEntriesOf J.seen O.seen b es × IsFrom window.now (J.seen journal.disk) es) }
         ensures durable { IfOk result (λ b. IfSome (O.seen b.output) (LeavesOnly (O.crash b.output))) }
+        // What told its bytes tells bytes still.
+        ensures still { IfOk result (λ b. StillTells (J.seen journal.disk) (J.seen b.journal.disk) × StillTells (O.seen output) (O.seen b.output)) }
         ensures any_moment { IfSome (J.seen journal.disk) (λ bytes. MatchResult result
             (λ b. CrashesLeave (HoldsSameOrFirst window.now bytes) (J.crash journal.disk) (J.crash b.journal.disk))
             (λ e. CrashesLeave (HoldsSameOrFirst window.now bytes) (J.crash journal.disk) (J.crash e.1))) }
@@ -301,6 +311,8 @@ impl<J: Disk, O: Disk> Book<J, O> {
         // The entries are the journal's, or the one that begins the window where it had none.
         ensures entries { IfOk result (λ b. (es : List TheEntry) × AreEntriesOf J.seen O.seen b es × IsFrom window.now (J.seen journal) es) }
         ensures durable { IfOk result (λ b. IfSome (O.seen b.output) (LeavesOnly (O.crash b.output))) }
+        // What told its bytes tells bytes still.
+        ensures still { IfOk result (λ b. StillTells (J.seen journal) (J.seen b.journal.disk) × StillTells (O.seen output) (O.seen b.output)) }
         // A crash at any moment leaves the payloads of an image that one might have left before, or, where one of these had none, that of the entry that begins the window.
         ensures any_moment { IfSome (J.seen journal) (λ _. MatchResult result
             (λ b. CrashesLeave (HoldsOldOrFirst window.now (J.crash journal)) (J.crash journal) (J.crash b.journal.disk))

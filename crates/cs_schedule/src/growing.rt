@@ -3,7 +3,7 @@ ghost use Rattle.cs_schedule.specs.declared.entry.Entry.{Entry as TheEntry};
 ghost use Rattle.cs_schedule.specs.declared.entry.Entry.TheVariants.{Begin};
 ghost use Rattle.cs_schedule.specs.Follows.{IsBoardOf, PlannedIsNext, NextIsFolded, MarkIsOfEntries, MarkIsWithin, BatchKeepsConsistent, NoneIsOrphan, LeaseIsNoEntry, GivingBackIsNoEntry, FreshIsNoEntry, LeasedRowMayCome};
 ghost use Rattle.cs_schedule.specs.Rows.{Folds};
-ghost use Rattle.cs_schedule.specs.Spelling.{IsInFormat};
+ghost use Rattle.cs_schedule.specs.Spelling.{IsInFormat, PayloadsDiffer};
 
 use crate::board::Board;
 use crate::entry::Entry;
@@ -61,4 +61,9 @@ pub fn leases_are_no_entries()
     ensures back { GivingBackIsNoEntry }
     ensures fresh { FreshIsNoEntry }
     ensures comes { LeasedRowMayCome }
+{}
+
+/// A law: two entries of the grammar with one payload are one entry.
+pub fn payloads_differ()
+    ensures { PayloadsDiffer }
 {}

@@ -33,7 +33,9 @@ mod writing;
 pub use board::Board;
 pub use entry::Entry;
 pub use fold::FoldFault;
-pub use growing::{boards_are_of_entries, boards_stay_consistent, leases_are_no_entries};
+pub use growing::{
+    boards_are_of_entries, boards_stay_consistent, leases_are_no_entries, payloads_differ,
+};
 pub use plan::PlanFault;
 pub use planned::Plan;
 pub use row::Row;

@@ -4,6 +4,7 @@ use Rattle.cs_journal.specs.Crashes.{HasSamePayloads, KeepsAnOldImage}
 use Rattle.cs_journal.specs.State.{WhereTold}
 use Rattle.cs_book.proofs.Opened.{open_crash, open_fault, if_err, bad_refused, begun_more, writes_more, IsRead}
 use Rattle.cs_book.proofs.Payloads.{if_ok}
+use Rattle.cs_book.proofs.Still.{still_then, still_told}
 use Rattle.cs_book.proofs.book.Book.open.Goals as goal
 
 pub returns-in-Ok-clause-any_moment : goal.returns-in-Ok-clause-any_moment
@@ -40,3 +41,9 @@ pub returns-in-Err-BadJournal-default-clause-refused : goal.returns-in-Err-BadJo
 returns-in-Err-BadJournal-default-clause-refused g c =
     let bad = c.in-Err-BadJournal-default.ensures.bad c.in-Err-BadJournal-default.place c.in-Err-BadJournal-default.field-0-0-is in
     bad_refused (g.J.Disk.seen c.args.journal) _ _ (subst (λ (n : ℕ). IfSome (g.J.Disk.seen c.args.journal) (λ bytes. stored_of bytes ≡ Err n)) (sym c.in-Err-BadJournal-default.place-is) bad)
+
+pub returns-in-Ok-clause-still : goal.returns-in-Ok-clause-still
+returns-in-Ok-clause-still g c =
+    let seen = g.J.Disk.seen c.args.journal in
+    let mid = g.J.Disk.seen c.in-Ok.journal.disk in
+    if_ok _ _ c.open_over.result (λ b h. (still_then seen mid (g.J.Disk.seen b.journal.disk) (still_told HasSamePayloads seen mid c.in-Ok.ensures.kept) h.0, h.1)) c.open_over.ensures.still

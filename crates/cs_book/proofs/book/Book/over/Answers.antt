@@ -1,5 +1,6 @@
 use Rattle.std.proofs.Common.{rules, ◌≡◌, refl}
 use Rattle.cs_book.proofs.Opened.{over_sound, over_free, over_entries}
+use Rattle.cs_book.proofs.Still.{still_now, still_front}
 use Rattle.cs_book.proofs.book.Book.over.Goals as goal
 
 pub invariant_of-result : goal.invariant_of-result
@@ -17,3 +18,6 @@ returns-clause-entries g c = λ es held told.
     let t = c.args.telling in
     let same : c.as_bytes.result.now ≡ t.lines = (search rules) in
     over_entries c.leases_are_no_entries.ensures.fresh (g.J.Disk.seen c.args.journal.disk) (g.O.Disk.seen c.redo.new.disk) t c.fresh.new.self c.as_bytes.result.now es c.fresh.ensures c.in-Ok-redo.ensures.bytes same held told
+
+pub returns-clause-still : goal.returns-clause-still
+returns-clause-still g c = (still_now (g.J.Disk.seen c.args.journal.disk), still_front _ (g.O.Disk.seen c.args.output) (g.O.Disk.seen c.redo.new.disk) c.redo.ensures.front)

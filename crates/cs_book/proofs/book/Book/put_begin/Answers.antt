@@ -4,6 +4,7 @@ use Rattle.cs_schedule.specs.declared.entry.Entry.TheVariants.{Begin}
 use Rattle.cs_book.specs.Opening.{HoldsSameOrFirst}
 use Rattle.cs_book.proofs.Opened.{first_told, first_crash, whole_crash, if_err, begin_fault}
 use Rattle.cs_book.proofs.Payloads.{if_ok}
+use Rattle.cs_book.proofs.Still.{still_then, still_told}
 use Rattle.cs_book.proofs.book.Book.put_begin.Goals as goal
 
 pub returns-in_default-clause-any_moment : goal.returns-in_default-clause-any_moment
@@ -35,3 +36,9 @@ returns-clause-any_moment g c =
 
 pub returns-clause-refused : goal.returns-clause-refused
 returns-clause-refused g c = if_err _ _ c.over.result (λ e h. begin_fault (g.J.Disk.faults c.args.journal.disk) (g.O.Disk.faults c.args.output) e.0 (g.J.Disk.faults e.1) (g.O.Disk.faults e.2) h) c.over.ensures.refused
+
+pub returns-clause-still : goal.returns-clause-still
+returns-clause-still g c =
+    let j = c.args.journal in
+    let put = still_told _ (g.J.Disk.seen j.disk) (g.J.Disk.seen c.put.new.self.disk) c.in-Ok.ensures.added in
+    if_ok _ _ c.over.result (λ b h. (still_then (g.J.Disk.seen j.disk) (g.J.Disk.seen c.put.new.self.disk) (g.J.Disk.seen b.journal.disk) put h.0, h.1)) c.over.ensures.still

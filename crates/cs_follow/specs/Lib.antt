@@ -1,0 +1,10 @@
+pub mod Carry
+pub mod Cause
+pub mod Complete
+pub mod Due
+pub mod Ended
+pub mod Left
+pub mod Own
+pub mod Rightly
+pub mod Still
+pub mod Turn
