@@ -113,4 +113,3 @@ def check_generated(note, room):
 def check(note, room, is_explained):
     check_verdicts(note, room, is_explained)
     check_faults(note, room, is_explained)
-    check_generated(note, room)

@@ -4,6 +4,7 @@ wrote is then checked by the program itself."""
 import base64
 
 import commands
+import journal
 import judge
 import model
 from lines import PREAMBLE, STREAM, at, border, change, commit, ddl, insert, reshape, watermark
@@ -169,7 +170,9 @@ def check_row(note, room, is_explained, what, script, words, want, output):
     path = room.put("script", script)
     ran = room.run(["replay", path, "journal", "output", "S", *words])
     note(ran.returncode == status and ran.stdout.decode() == want + "\n" and is_explained(ran), f"replay, {what}", str(ran)[:400])
-    note(room.left("output") == output and room.left("journal") == b"", f"replay, {what}: output", (room.left("output") or b"")[-400:])
+    note(room.left("output") == output, f"replay, {what}: output", (room.left("output") or b"")[-400:])
+    saw = journal.unlike(room.left("journal") or b"", output, own.entries)
+    note(saw is None, f"replay, {what}: journal", saw)
     if status in (0, 10):
         marks = [it for it in output.decode().split("\n") if it.startswith('{"watermark"')]
         verdict = ENDED if status == 0 else f"11 Verdict Prefix {marks[-1][14:-2] if marks else '-'}"

@@ -1,14 +1,16 @@
 """The examples of docs/FORMATS.md: its script with its output, a line for each cause, outputs with their verdicts, queries with
-their answers and refusals, and what a command prints."""
+their answers and refusals, what a command prints, and the bytes of a journal."""
 import os
 import re
 
+import journal
 import judge
 import model
 from lines import ddl
 
-FENCE = re.compile(r"^```(script|output|judged|shown|console)( [^\n]*)?\n(.*?)^```$", re.M | re.S)
+FENCE = re.compile(r"^```(script|output|judged|shown|console|journal)( [^\n]*)?\n(.*?)^```$", re.M | re.S)
 CAUSE = re.compile(r"^\| ([A-Z]\w+(?: [A-Z]\w+)?) \| [^|]* \| `(\{.*)` \|$", re.M)
+BYTES = re.compile(r"(?:[0-9a-f]{2} )*[0-9a-f]{2}(?=  |$)")
 QUERY = re.compile(r"^\| `(2[01] [^`]*)` \| [^|]* \| ([^ |]*) \| `(SELECT [^`]*)` \|$", re.M)
 STATEMENT = re.compile(r"^\| [0-9]+ \| (\w+)(?:\([^)]*\))? \| [^|]* \| `([A-Z]{4,} .*)` \|$", re.M)
 
@@ -37,8 +39,23 @@ def check_refused(note, room, script, cause, line):
     note(ran.returncode == 51 and ran.stdout.decode() == want, f"FORMATS.md, {line}", str(ran)[:400])
 
 
-def check_fence(note, room, script, what, words, content):
+def check_journal(note, room, top, name, window, content):
+    """Lines of bytes, each with what they are behind two blanks."""
+    data = b"".join(bytes.fromhex(BYTES.match(it)[0]) for it in content.splitlines())
+    with open(os.path.join(top, name), "rb") as file:
+        script = file.read()
+    own = model.replay(script, *window)
+    saw = journal.unlike(data, own.output, own.entries)
+    note(saw is None, f"FORMATS.md, the journal of {name}: the reader", saw)
+    ran = room.run(["replay", room.put("script", script), "journal", "output", *window])
+    note(ran.returncode == 0 and room.read("journal") == data, f"FORMATS.md, the journal of {name}", (str(ran)[:400], (room.left("journal") or b"").hex()))
+
+
+def check_fence(note, room, top, script, what, words, content):
     room.clear()
+    if what == "journal":
+        check_journal(note, room, top, words[0], words[1:], content)
+        return
     if what == "console":
         ran = room.run(words)
         note(ran.returncode == 0 and ran.stdout.decode() == content, f"FORMATS.md, {words}", str(ran)[:400])
@@ -69,12 +86,15 @@ def check_query(note, room, script, now, query, want):
     note(ran.returncode == own.status and ran.stdout.decode() == want, f"FORMATS.md, {query} at {now}", str(ran)[:400])
 
 
-def check(note, room, top):
+def check(note, room, top, left_out=()):
+    """Without the commands that are left out."""
     scripts, fences, lines, queries = parts_of(os.path.join(top, "docs", "FORMATS.md"))
     counts = len(scripts), len(fences), len(lines), len(queries)
-    note(counts[0] == 1 and len(fences) >= 8 and len(lines) >= 30 and len(queries) >= 16, "FORMATS.md has its examples", counts)
+    note(counts[0] == 1 and len(fences) >= 9 and len(lines) >= 30 and len(queries) >= 16, "FORMATS.md has its examples", counts)
     for fence in fences:
-        check_fence(note, room, scripts[0], *fence)
+        if fence[0] == "console" and fence[1][0] in left_out:
+            continue
+        check_fence(note, room, top, scripts[0], *fence)
     for cause, line in lines:
         check_refused(note, room, scripts[0], cause, line)
     for query in queries:

@@ -1,10 +1,12 @@
 """Replays made at random, over scripts made at random whose partitions are split, merged and moved: windows, orders, pages, turns
-and moments. What the program writes is compared with the model byte by byte, judged, and checked by the program itself; a
-window that is replayed in every order and by every size of page tells the same lines of each row. Each round can be made
-again by its seed."""
+and moments. What the program writes is compared with the model byte by byte, and its journal entry by entry, judged, and
+checked by the program itself; a run that paused or was refused is gone on with by other options, run after run. A window that
+is replayed in every order and by every size of page tells the same lines of each row. Each round can be made again by its
+seed."""
 import random
 import time
 
+import journal
 import judge
 import model
 from model.texts import LAST_STAMP, write_stamp
@@ -49,7 +51,7 @@ class Round:
         self.ends = [b"\n"] * len(self.lines)
         streams = [*self.maker.state.layouts] or [rng.choice(STREAMS)]
         self.windows = [self.window(rng, it) for it in streams for _ in range(2)]
-        self.asked = [(window, self.options(rng, window)) for window in self.windows for _ in range(3)]
+        self.asked = [(window, [self.options(rng, window) for _ in range(rng.choice((1, 2, 3)))]) for window in self.windows for _ in range(3)]
 
     def script(self):
         return joined(self.ends, self.lines)
@@ -81,20 +83,34 @@ class Asked:
         self.is_explained = is_explained
 
     def replay(self, script, words):
+        """From absent files."""
         self.room.clear()
-        ran = self.room.run(["replay", self.room.put("script", script), "journal", "output", *words])
-        return ran, self.room.left("output")
+        return self.go_on(self.room.put("script", script), words)
 
-    def differs(self, script, words):
+    def go_on(self, path, words):
+        return self.room.run(["replay", path, "journal", "output", *words]), self.room.left("output")
+
+    def differs(self, script, window, runs):
+        """What is wrong with runs of a window that go on with each other's files, by their options; None where nothing is."""
+        self.room.clear()
+        path, own = self.room.put("script", script), None
+        for number, options in enumerate(runs):
+            own = model.replay(script, *window, *options, entries=own.entries if own else (), output=own.output if own else b"")
+            wrong = self.unlike(path, script, (*window, *options), own)
+            if wrong is not None:
+                return f"run {number}, {options}: {wrong}"
+        return None
+
+    def unlike(self, path, script, words, own):
         """What is wrong with the program's answer to a replay, and with its check of what it wrote; None where nothing is."""
-        own = model.replay(script, *words)
-        ran, output = self.replay(script, words)
+        ran, output = self.go_on(path, words)
         if not (ran.returncode == own.status and ran.stdout.decode() == own.console and self.is_explained(ran) and output == own.output):
             return f"{ran.stdout} and {(output or b'')[-600:]}, the model {own.console!r} and {own.output[-600:]}, error {ran.stderr[:300]}"
-        if self.room.left("journal") != b"":
-            return "the journal is no longer empty"
-        wanted = [it.line for it in model.changes(script, *words[:3])] if own.status in (0, 10) else []
-        wrong = judge.wrong(own.status, output, wanted, words[2])
+        wrong = journal.unlike(self.room.left("journal") or b"", output, own.entries)
+        if wrong is not None:
+            return wrong
+        wanted = [it.line for it in model.changes(script, *words[:3])] if output else []
+        wrong = judge.wrong(own.status, output, wanted, words[2]) if own.status in (0, 10) else judge.fault(output, wanted, words[2])
         return wrong or (self.checked(own.status, output, words[:3]) if own.status in (0, 10) else None)
 
     def checked(self, status, output, window):
@@ -127,15 +143,15 @@ def fullest(script, windows):
 def check_round(note, asked, seed, counts):
     made = Round(seed)
     script = made.script()
-    for window, options in made.asked:
-        words = (*words_of(window), *options)
-        saw, less = asked.differs(script, words), script
+    for window, runs in made.asked:
+        words, less = words_of(window), script
+        saw = asked.differs(script, words, runs)
         if saw is not None:
-            less = smallest(made.ends, made.lines, lambda it: asked.differs(it, words))
-            saw = asked.differs(less, words)
-        note(saw is None, f"seed {seed}, replay of {words}", f"{less!r}: {saw}")
-        status = model.replay(script, *words).status
-        counts[status] = counts.get(status, 0) + 1
+            less = smallest(made.ends, made.lines, lambda it: asked.differs(it, words, runs))
+            saw = asked.differs(less, words, runs)
+        note(saw is None, f"seed {seed}, replays of {words} by {runs}", f"{less!r}: {saw}")
+        own = model.replay(script, *words, *runs[0])
+        counts[own.status] = counts.get(own.status, 0) + 1
     window = fullest(script, made.windows)
     if window is not None:
         saw = asked.differ(script, window)

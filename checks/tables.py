@@ -1,6 +1,6 @@
 """What the program must say of words, and of some scripts that it takes: each row has an input and the answer that the formats give it."""
 
-STATUSES = (0, 10, 11, 20, 21, 41, 42, 43, 50, 51, 55, 56, 60, 70)
+STATUSES = (0, 10, 11, 20, 21, 31, 40, 41, 42, 43, 50, 51, 52, 53, 54, 55, 56, 60, 70)
 
 TABLE = b'{"at":"2024-05-01T00:00:00Z","ddl":"CREATE TABLE T (K INT64 NOT NULL, A INT64, B STRING(MAX)) PRIMARY KEY (K)"}\n'
 STREAM = b'{"at":"2024-05-01T00:00:00Z","ddl":"CREATE CHANGE STREAM S FOR T"}\n'

@@ -1,8 +1,9 @@
-"""What the commands answer: the status, what the console shows, and for a replay the output."""
+"""What the commands answer: the status, what the console shows, and for a replay the output and the journal's entries."""
 import functools
 import re
 
 from . import reads
+from .entries import Begin, text_of
 from .follower import Pace, followed
 from .generated import END, START, STREAM, script_of
 from .history import captured
@@ -17,10 +18,11 @@ CHANGE = '{"key":'
 
 
 class Answer:
-    def __init__(self, status, name, *values, output=b"", lines=()):
+    def __init__(self, status, name, *values, output=b"", entries=(), lines=()):
         self.status = status
         self.console = "".join(it + "\n" for it in [*lines, " ".join([str(status), name, *(str(it) for it in values)])])
         self.output = output
+        self.entries = list(entries)
 
 
 class Change:
@@ -111,23 +113,26 @@ def options_of(words):
     return given
 
 
-def replay(script, stream, start, end, *options, output=b""):
-    """Of a replay over a script's bytes into an output that has these bytes."""
+def replay(script, stream, start, end, *options, output=b"", entries=()):
+    """Of a replay over a script's bytes, an output that has these bytes and a journal that has these entries."""
+    there = {"output": output, "entries": entries}
     place = bad_window(stream, start, end, 4)
     if place is not None:
-        return Answer(50, "BadWords", place, output=output)
+        return Answer(50, "BadWords", place, **there)
     given = options_of(options)
     if isinstance(given, int):
-        return Answer(50, "BadWords", 7 + given, output=output)
+        return Answer(50, "BadWords", 7 + given, **there)
     state = loaded(script)
     if isinstance(state, BadScript):
-        return Answer(51, "BadScript", state.line, state.cause, output=output)
-    if output:
-        return Answer(55, "OutputNotEmpty", len(output), output=output)
-    end = read_stamp(end)
+        return Answer(51, "BadScript", state.line, state.cause, **there)
+    begin = Begin(stream, read_stamp(start), read_stamp(end))
+    if entries and entries[0] != begin:
+        return Answer(52, "OtherJournal", entries[0].stream, write_stamp(entries[0].start), write_stamp(entries[0].end), **there)
+    if output and not entries:
+        return Answer(55, "OutputNotEmpty", len(output), **there)
     pace = Pace(**{name[2:]: value for name, value in given.items() if name != "--moment"})
-    stop, lines = followed(state, stream, read_stamp(start), end, given.get("--moment", end), pace)
-    return Answer(*stop, output="".join(it + "\n" for it in lines).encode())
+    stop, entries = followed(state, entries or [begin], given.get("--moment", begin.end), pace)
+    return Answer(*stop, output=text_of(entries), entries=entries)
 
 
 def changes(script, stream, start, end):

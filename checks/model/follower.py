@@ -1,12 +1,13 @@
-"""A follower of a stream: which READs it makes, and what each of them adds to its output.
+"""A follower of a stream: which READs it makes, and which entry each of them adds to its journal.
 
 It keeps a row for each partition that it was told of: how far it is told, and which changes of the next microsecond are. From
-READ to READ nothing else is kept.
+READ to READ nothing else is kept, and from run to run nothing but the entries.
 """
 import functools
 import json
 
 from . import reads
+from .entries import Board, Finished, Opened, Progress, name_of
 from .refusal import Refusal
 from .texts import compact, read_stamp, write_stamp
 
@@ -22,18 +23,6 @@ class Pace:
         self.order = order
         self.turns = turns
         self.batch = batch
-
-
-class Row:
-    """All of its partition is told up to `through`, and `seen` of the microsecond behind it."""
-
-    def __init__(self, parents, start):
-        self.parents = parents
-        self.start = start
-        self.through = start - 1
-        self.seen = set()
-        self.is_finished = False
-        self.tries = 0
 
 
 # ---- records
@@ -71,7 +60,7 @@ def parsed(line):
         record = tree[CHILDREN][0]
         return CHILDREN, read_stamp(record["start_timestamp"]), [(it["token"], it["parent_partition_tokens"]) for it in record["child_partitions"]]
     record = tree[DATA][0]
-    changes = [((record["server_transaction_id"], record["table_name"], compact(it["keys"])), change_line(record, it)) for it in record["mods"]]
+    changes = [(name_of(line)[1], line) for line in (change_line(record, it) for it in record["mods"])]
     return DATA, read_stamp(record["commit_timestamp"]), (changes, weight(record))
 
 
@@ -129,82 +118,74 @@ class Batch:
 
 
 class Follower:
-    """It follows a stream from `start` to `end`, over a server at a moment; `lines` are those of its output."""
+    """It follows a window over a server at a moment, from where the entries end that earlier runs left."""
 
-    def __init__(self, state, stream, start, end, moment, pace):
+    def __init__(self, state, entries, moment, pace):
         self.state = state
-        self.stream = stream
-        self.start = start
-        self.end = end
+        self.entries = list(entries)
+        self.board = Board(entries)
         self.moment = moment
         self.pace = pace
-        self.rows = {}
-        self.written = start - 1
-        self.lines = []
 
     def read(self, token, start):
         """The lines that answer a READ; a refusal is raised."""
-        stamps = [("text", write_stamp(it)) for it in (start, self.end)]
+        window = self.board.begin
+        stamps = [("text", write_stamp(it)) for it in (start, window.end)]
         literals = [*stamps, ("null", None) if token is None else ("text", token), ("number", HEARTBEAT)]
-        return reads.read(self.state, f"READ_{self.stream}", list(zip(reads.POSITIONAL, literals)), self.moment)
+        return reads.read(self.state, f"READ_{window.stream}", list(zip(reads.POSITIONAL, literals)), self.moment)
 
-    def begin(self):
-        first = Batch(self.start - 1, ())
-        first.take(self.read(None, self.start), self.end, self.pace.batch)
-        self.rows = {token: Row(parents, start) for token, (parents, start) in first.children.items()}
+    def add(self, entry):
+        self.entries.append(entry)
+        self.board.fold(entry)
+
+    def open(self):
+        window = self.board.begin
+        first = Batch(window.start - 1, ())
+        first.take(self.read(None, window.start), window.end, self.pace.batch)
+        self.add(Opened(tuple(sorted(first.children))))
 
     def next(self):
         """The token of the row that is read next; None where none may be."""
-        may = [
-            token for token, row in sorted(self.rows.items())
-            if not row.is_finished and all(it in self.rows and self.rows[it].is_finished for it in row.parents)
-        ]
-        least = min((self.rows[it].tries for it in may), default=0)
-        fewest = [it for it in may if self.rows[it].tries == least]
+        rows = self.board.rows
+        may = [token for token, row in sorted(rows.items()) if not row.is_finished and all(it in rows and rows[it].is_finished for it in row.parents)]
+        least = min((rows[it].tries for it in may), default=0)
+        fewest = [it for it in may if rows[it].tries == least]
         return fewest[self.pace.order % len(fewest)] if fewest else None
 
-    def mark(self):
-        return min((it.through for it in self.rows.values() if not it.is_finished), default=self.end)
-
-    def settle(self, row, batch):
-        """Keeps what the READ of a row brought, and writes it."""
-        behind = {name for stamp, name, _ in batch.changes if stamp == batch.through + 1}
-        row.seen = row.seen | behind if batch.through == row.through else behind
-        row.through = batch.through
-        row.is_finished = batch.ending == "FINISHED"
-        if row.is_finished:
-            for token, (parents, start) in batch.children.items():
-                self.rows.setdefault(token, Row(parents, start))
-        self.lines += [line for _, _, line in batch.changes]
-        mark = self.mark()
-        if mark > self.written:
-            self.written = mark
-            self.lines.append(compact({"watermark": write_stamp(mark)}))
+    def settle(self, token, batch):
+        """Keeps what the READ of a row brought, where it brought something."""
+        lines = tuple(line for _, _, line in batch.changes)
+        if batch.ending == "FINISHED":
+            children = tuple((it, tuple(parents), start) for it, (parents, start) in batch.children.items())
+            self.add(Finished(token, batch.through, lines, children))
+        elif lines or batch.through > self.board.rows[token].through:
+            self.add(Progress(token, batch.through, lines))
 
     def follow(self):
         """Whether it came to the end; otherwise it paused."""
-        self.begin()
+        if not self.board.rows:
+            self.open()
         caught_up = 0
         while (token := self.next()) is not None:
-            row = self.rows[token]
+            row = self.board.rows[token]
             batch = Batch(row.through, row.seen)
-            batch.take(self.read(token, max(row.start, row.through)), self.end, self.pace.batch)
-            self.settle(row, batch)
+            batch.take(self.read(token, max(row.start, row.through)), self.board.begin.end, self.pace.batch)
+            self.settle(token, batch)
             if batch.ending == "CAUGHT_UP":
                 row.tries += 1
                 caught_up += 1
                 if caught_up == self.pace.turns:
                     return False
-        if not all(it.is_finished for it in self.rows.values()):
+        if not all(it.is_finished for it in self.board.rows.values()):
             raise AssertionError("a row waits for a parent that is told by nobody")
         return True
 
 
-def followed(state, stream, start, end, moment, pace):
-    """How it stops, as a status, its name and its values, and the lines of the output."""
-    follower = Follower(state, stream, start, end, moment, pace)
+def followed(state, entries, moment, pace):
+    """How it stops, as a status, its name and its values, and the entries that are then there."""
+    follower = Follower(state, entries, moment, pace)
     try:
         stop = (0, "Ended") if follower.follow() else (10, "Paused")
     except Refusal as refusal:
         stop = (20, "RetentionPassed", write_stamp(refusal.held)) if refusal.name == "StartTooOld" else (21, "Refused", refusal.name)
-    return stop, follower.lines
+    return stop, follower.entries

@@ -1,16 +1,12 @@
 // A run of a follower, in words.
-ghost use Rattle.std.specs.Prelude.{◌≤◌, IfOk, Contains};
-ghost use Rattle.cs_schedule.specs.declared.entry.Entry.{Entry as TheEntry};
-ghost use Rattle.cs_schedule.specs.Fold.{DoFold};
-ghost use Rattle.cs_schedule.specs.Spelling.{IsInFormat};
+ghost use Rattle.std.specs.Prelude.{◌≤◌};
 
 use crate::answers::moment;
+use crate::books::{Disks, empty_disks, opened, tell_bytes};
 use crate::telling::tell_outcome;
+use cs_follow::{Outcome, Pace, follow_one};
 use cs_link::{Limits, Link};
-use cs_schedule::Entry;
-use cs_tail::{Outcome, Pace, follow_entries};
-use cs_text::text_of;
-use cs_types::{Items, Memory, Text, Window};
+use cs_types::{Memory, Text, Window};
 use std::alloc::Global;
 
 /// The window of S between two moments, in microseconds after midnight.
@@ -22,21 +18,17 @@ pub fn window(alloc: Global, start: u32, end: u32) -> Result<Window, Memory> {
     })
 }
 
-/// The outcome and the entries of a run.
+/// A run over disks: its outcome, or none where their book cannot be opened, and the disks.
 pub fn followed<K: Link>(
     alloc: Global,
     link: &mut K,
+    disks: Disks,
     window: &Window,
     order: u64,
     records: u32,
-) -> Result<(Outcome, Items<Entry>), Memory>
+) -> Result<(Option<Outcome>, Disks), Memory>
     requires { (1 ≤ records) × (records ≤ 8192) }
-    ensures format { IfOk result (λ r. (e : TheEntry) → Contains r.1 e → IsInFormat e) }
-    ensures fold { IfOk result (λ r. DoFold r.1) }
 {
-    if window.start.us() > window.end.us() {
-        return Err(Memory);
-    }
     let pace = Pace {
         order,
         turns: 100,
@@ -45,24 +37,49 @@ pub fn followed<K: Link>(
             bytes: 1_048_576,
         },
     };
-    follow_entries(alloc, link, window, &pace)
+    match opened(alloc, disks, window)? {
+        Ok(book) => {
+            let mut book = book;
+            let outcome = follow_one(alloc, &mut book, link, &pace);
+            let (journal, output) = book.close();
+            Ok((Some(outcome), Disks { journal, output }))
+        }
+        Err(disks) => Ok((None, disks)),
+    }
 }
 
-/// How a run stopped, and its output.
+/// How a run over disks stopped, and its output; the disks come back.
+pub fn tell_run_over<K: Link>(
+    alloc: Global,
+    told: &mut String,
+    link: &mut K,
+    disks: Disks,
+    window: &Window,
+    records: u32,
+) -> Result<Disks, Memory>
+    requires { (1 ≤ records) × (records ≤ 8192) }
+{
+    let (outcome, disks) = followed(alloc, link, disks, window, 0, records)?;
+    match outcome {
+        Some(outcome) => tell_outcome(alloc, told, &outcome)?,
+        None => told.push_str("not opened")?,
+    }
+    told.push_str("\n")?;
+    tell_bytes(told, &disks.output)?;
+    Ok(disks)
+}
+
+/// How a run from nothing stopped, and its output.
 pub fn tell_run<K: Link>(
     alloc: Global,
     told: &mut String,
     link: &mut K,
     window: &Window,
-    order: u64,
     records: u32,
 ) -> Result<(), Memory>
     requires { (1 ≤ records) × (records ≤ 8192) }
 {
-    let (outcome, entries) = followed(alloc, link, window, order, records)?;
-    let text = text_of(alloc, entries.as_slice())?;
-    tell_outcome(alloc, told, &outcome)?;
-    told.push_str("\n")?;
-    told.push_str(text.as_str())?;
+    let disks = empty_disks(alloc)?;
+    let _disks = tell_run_over(alloc, told, link, disks, window, records)?;
     Ok(())
 }

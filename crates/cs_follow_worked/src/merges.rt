@@ -1,16 +1,14 @@
-ghost use Rattle.std.specs.Prelude.{Contains};
-ghost use Rattle.cs_schedule.specs.declared.entry.Entry.{Entry as TheEntry};
-ghost use Rattle.cs_schedule.specs.Spelling.{IsInFormat};
-
 use crate::answers::second;
+use crate::books::{empty_disks, tell_bytes};
 use crate::following::{followed, window};
 use crate::scripts::merged_server;
 use crate::telling::{tell_moment, tell_number, tell_token};
+use cs_device::MemDisk;
+use cs_journal::{Journal, Stored};
 use cs_link::NewChild;
 use cs_schedule::{Board, Entry};
 use cs_script::{LineCause, ServerState};
 use cs_server::ServerLink;
-use cs_text::text_of;
 use cs_types::{Memory, Token};
 use std::alloc::Global;
 use std::test::Fail;
@@ -77,36 +75,62 @@ fn tell_lowest(alloc: Global, told: &mut String, board: &Board) -> Result<(), Me
     Ok(())
 }
 
-/// The entries, each with what is furthest behind after it.
-fn tell_entries(alloc: Global, told: &mut String, entries: &[Entry]) -> Result<(), Memory>
-    requires format { (e : TheEntry) → Contains entries.now e → IsInFormat e }
-{
-    if entries.is_empty() {
-        return Ok(());
-    }
-    let Entry::Begin(window) = &entries[0] else {
-        return Ok(());
+/// The board of the first entry, which begins a window.
+fn begun(alloc: Global, payload: &[u8]) -> Result<Board, Memory> {
+    let Some(entry) = Entry::decode(alloc, payload)? else {
+        return Err(Memory);
     };
-    let mut board = Board::begin(alloc, window)?;
-    for place in 1..entries.len() {
-        let entry = &entries[place];
-        if board.fold_entry(alloc, entry)? {
-            tell_entry(alloc, told, entry)?;
-            tell_lowest(alloc, told, &board)?;
-        }
+    match &entry {
+        Entry::Begin(window) => Board::begin(alloc, window),
+        _ => Err(Memory),
+    }
+}
+
+/// The entry of a payload, and what is furthest behind after it.
+fn tell_next(
+    alloc: Global,
+    told: &mut String,
+    board: &mut Board,
+    payload: &[u8],
+) -> Result<(), Memory> {
+    let Some(entry) = Entry::decode(alloc, payload)? else {
+        return Err(Memory);
+    };
+    if board.fold_entry(alloc, &entry)? {
+        tell_entry(alloc, told, &entry)?;
+        tell_lowest(alloc, told, board)?;
     }
     Ok(())
+}
+
+/// The entries behind the first one, each with what is furthest behind after it.
+fn tell_stored(alloc: Global, told: &mut String, stored: &[Stored]) -> Result<(), Memory> {
+    let [first, rest @ ..] = stored else {
+        return Err(Memory);
+    };
+    let mut board = begun(alloc, first.payload.as_slice())?;
+    for next in rest {
+        tell_next(alloc, told, &mut board, next.payload.as_slice())?;
+    }
+    Ok(())
+}
+
+/// The entries of a journal, each with what is furthest behind after it.
+fn tell_journal(alloc: Global, told: &mut String, disk: MemDisk) -> Result<(), Memory> {
+    match Journal::open(alloc, disk) {
+        Ok((_journal, stored)) => tell_stored(alloc, told, stored.as_slice()),
+        Err((_fault, _disk)) => Err(Memory),
+    }
 }
 
 /// The entries and the output of a run in this order.
 fn tell(alloc: Global, told: &mut String, state: &ServerState, order: u64) -> Result<(), Memory> {
     let window = window(alloc, 3_000_000, 8_000_000)?;
     let mut link = ServerLink::new(alloc, state, second(10)?);
-    let (_outcome, entries) = followed(alloc, &mut link, &window, order, 1_024)?;
-    tell_entries(alloc, told, entries.as_slice())?;
-    let text = text_of(alloc, entries.as_slice())?;
-    told.push_str(text.as_str())?;
-    Ok(())
+    let disks = empty_disks(alloc)?;
+    let (_outcome, disks) = followed(alloc, &mut link, disks, &window, order, 1_024)?;
+    tell_journal(alloc, told, disks.journal)?;
+    tell_bytes(told, &disks.output)
 }
 
 fn merges(alloc: Global) -> Result<String, LineCause> {

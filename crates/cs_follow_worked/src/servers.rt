@@ -19,21 +19,20 @@ fn tell(
     state: &ServerState,
     start: u32,
     end: u32,
-    order: u64,
     records: u32,
 ) -> Result<(), Memory>
     requires { (1 ≤ records) × (records ≤ 8192) }
 {
     let window = window(alloc, start, end)?;
     let mut link = ServerLink::new(alloc, state, second(10)?);
-    tell_run(alloc, told, &mut link, &window, order, records)
+    tell_run(alloc, told, &mut link, &window, records)
 }
 
 fn pages(alloc: Global) -> Result<String, LineCause> {
     let mut told = String::new(alloc);
     let state = two_inserts(alloc)?;
-    tell(alloc, &mut told, &state, 1_000_000, 3_000_000, 0, 1)?;
-    tell(alloc, &mut told, &state, 1_000_000, 3_000_000, 0, 1_024)?;
+    tell(alloc, &mut told, &state, 1_000_000, 3_000_000, 1)?;
+    tell(alloc, &mut told, &state, 1_000_000, 3_000_000, 1_024)?;
     Ok(told)
 }
 
@@ -49,10 +48,10 @@ fn a_page_has_its_watermark(rt: HostRuntime) -> Result<(), Fail> {
 fn splits(alloc: Global) -> Result<String, LineCause> {
     let mut told = String::new(alloc);
     let state = split_server(alloc, 100)?;
-    tell(alloc, &mut told, &state, 1_000_000, 10_000_000, 0, 1_024)?;
+    tell(alloc, &mut told, &state, 1_000_000, 10_000_000, 1_024)?;
     let state = split_server(alloc, 1)?;
-    tell(alloc, &mut told, &state, 1_000_000, 5_000_000, 0, 1_024)?;
-    tell(alloc, &mut told, &state, 1_000_000, 4_999_999, 0, 1_024)?;
+    tell(alloc, &mut told, &state, 1_000_000, 5_000_000, 1_024)?;
+    tell(alloc, &mut told, &state, 1_000_000, 4_999_999, 1_024)?;
     Ok(told)
 }
 

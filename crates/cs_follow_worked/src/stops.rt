@@ -6,7 +6,7 @@ use std::alloc::Global;
 use std::test::Fail;
 
 /// The answers to the READ of the parts at the start, of which there is one, and to those after it.
-fn reads(alloc: Global, answers: &[&[Say<'_>]]) -> Result<Items<MemRead>, CellsFault> {
+pub fn reads(alloc: Global, answers: &[&[Say<'_>]]) -> Result<Items<MemRead>, CellsFault> {
     let mut reads = Items::new(alloc);
     reads.push(answer(alloc, &[Say::Child(1, 0, &[]), Say::Finished])?)?;
     for says in answers {
@@ -19,7 +19,7 @@ fn reads(alloc: Global, answers: &[&[Say<'_>]]) -> Result<Items<MemRead>, CellsF
 fn tell(alloc: Global, told: &mut String, reads: Items<MemRead>) -> Result<(), Memory> {
     let mut link = link(alloc, reads)?;
     let window = window(alloc, 1_000_000, 10_000_000)?;
-    tell_run(alloc, told, &mut link, &window, 0, 1_024)
+    tell_run(alloc, told, &mut link, &window, 1_024)
 }
 
 /// One child, told again and again.
@@ -57,7 +57,7 @@ fn a_follower_stops_where_it_cannot_go_on(rt: HostRuntime) -> Result<(), Fail> {
 fn paged(alloc: Global, told: &mut String, reads: Items<MemRead>) -> Result<(), Memory> {
     let mut link = link(alloc, reads)?;
     let window = window(alloc, 1_000_000, 2_000_000)?;
-    tell_run(alloc, told, &mut link, &window, 0, 1)
+    tell_run(alloc, told, &mut link, &window, 1)
 }
 
 fn ties(alloc: Global) -> Result<String, CellsFault> {

@@ -1,9 +1,9 @@
 // Outcomes in words.
 use crate::answers::MIDNIGHT;
 use cs_fetch::FetchFault;
+use cs_follow::Outcome;
 use cs_link::Breach;
 use cs_records::{LineFault, RecordFault};
-use cs_tail::Outcome;
 use cs_types::{Memory, Stamp, Token};
 use std::alloc::Global;
 
@@ -146,5 +146,9 @@ pub fn tell_outcome(alloc: Global, told: &mut String, outcome: &Outcome) -> Resu
             tell_breach(alloc, told, breach)
         }
         Outcome::Stalled(token, count) => stalled(alloc, told, token, *count),
+        Outcome::JournalFault => put(told, "JournalFault"),
+        Outcome::OutputFault => put(told, "OutputFault"),
+        Outcome::Full(_) => put(told, "Full"),
+        Outcome::Memory => Err(Memory),
     }
 }

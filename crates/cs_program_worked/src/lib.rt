@@ -2,6 +2,16 @@
 #![tactic(auto)]
 
 #[cfg(test)]
+mod disks;
+#[cfg(test)]
+mod journals;
+#[cfg(test)]
 mod objects;
 #[cfg(test)]
+mod restarts;
+#[cfg(test)]
 mod runs;
+#[cfg(test)]
+mod scripts;
+#[cfg(test)]
+mod statuses;

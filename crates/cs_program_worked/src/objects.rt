@@ -18,20 +18,35 @@ pub fn source(alloc: Global, script: &str, fails: &[u64]) -> Result<MemSource, M
     MemSource::new(alloc, bytes, Items::from_slice(alloc, fails)?)
 }
 
-/// A disk with these bytes and listed calls that fail.
-pub fn disk(alloc: Global, bytes: &str, fails: &[u64]) -> Result<MemDisk, Memory> {
-    let bytes = Items::from_slice(alloc, bytes.as_bytes())?;
-    MemDisk::new(alloc, bytes, 1000, 1000, Items::from_slice(alloc, fails)?)
+/// A disk with these bytes that takes so many more, and listed calls that fail.
+pub fn disk(alloc: Global, bytes: &[u8], room: u64, fails: &[u64]) -> Result<MemDisk, Memory> {
+    let bytes = Items::from_slice(alloc, bytes)?;
+    MemDisk::new(alloc, bytes, room, 1000, Items::from_slice(alloc, fails)?)
 }
 
-/// Objects that do not fail, over this script and these bytes of the output.
-pub fn sound_objects(alloc: Global, script: &str, output: &str) -> Result<Objects, Memory> {
+/// A disk that does not fail, with these bytes and ample room.
+pub fn sound_disk(alloc: Global, bytes: &[u8]) -> Result<MemDisk, Memory> {
+    disk(alloc, bytes, 2000, &[])
+}
+
+/// Objects that do not fail, over this script and these bytes of the journal and of the output.
+pub fn sound_objects(
+    alloc: Global,
+    script: &str,
+    journal: &[u8],
+    output: &[u8],
+) -> Result<Objects, Memory> {
     Ok(Objects {
         script: source(alloc, script, &[])?,
-        journal: disk(alloc, "journal", &[])?,
-        output: disk(alloc, output, &[])?,
+        journal: sound_disk(alloc, journal)?,
+        output: sound_disk(alloc, output)?,
         console: MemSink::new(alloc, 1000, Items::new(alloc))?,
     })
+}
+
+/// Objects that do not fail, over this script and what a run left in its journal and its output.
+pub fn objects_behind(alloc: Global, script: &str, left: &Objects) -> Result<Objects, Memory> {
+    sound_objects(alloc, script, left.journal.bytes(), left.output.bytes())
 }
 
 fn words_of(alloc: Global, text: &str) -> Result<Vec<String>, Memory> {
@@ -63,13 +78,15 @@ fn push_bytes(told: &mut String, bytes: &[u8]) -> Result<(), Memory> {
     Ok(())
 }
 
-/// The status, and what then stands on the console, in the journal and in the output.
-pub fn told(alloc: Global, words: &str, mut all: Objects) -> Result<String, Memory> {
+/// The status, and what then stands on the console, how many bytes the journal has, and the output.
+pub fn told(alloc: Global, words: &str, all: &mut Objects) -> Result<String, Memory> {
     let words = words_of(alloc, words)?;
-    let status = status(alloc, &words, &mut all);
+    let status = status(alloc, &words, all);
     let mut told = format!(in alloc; "{status}|")?;
     push_bytes(&mut told, all.console.bytes())?;
-    push_bytes(&mut told, all.journal.bytes())?;
+    let length = all.journal.bytes().len();
+    let length = format!(in alloc; "{length}|")?;
+    told.push_str(length.as_str())?;
     push_bytes(&mut told, all.output.bytes())?;
     Ok(told)
 }

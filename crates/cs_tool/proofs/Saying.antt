@@ -11,7 +11,7 @@ use Rattle.cs_tool.specs.Said.{status_said, text_said, IsWritten, AreStepsOf, Is
 use Rattle.cs_tool.specs.Show.{IsCutOff, shown_text}
 use Rattle.cs_tool.specs.Status.{status_line}
 use Rattle.cs_tool.specs.declared.status.Status.{Status}
-use Rattle.cs_tool.specs.declared.status.Status.TheVariants.{Ended, Paused, Verdict, RetentionPassed, Refused, OutputFault, SourceFault, ConsoleFault, BadWords, BadScript, OutputNotEmpty, BadOutput, Memory}
+use Rattle.cs_tool.specs.declared.status.Status.TheVariants.{Ended, Paused, Verdict, RetentionPassed, Refused, LinkFault, Breach, Stalled, JournalFault, OutputFault, SourceFault, ConsoleFault, BadWords, BadScript, OtherJournal, BadJournal, Full, OutputNotEmpty, BadOutput, Memory}
 use Rattle.cs_tool.specs.declared.top.Said.{Said}
 use Rattle.cs_tool.specs.declared.top.Said.TheVariants.{Line, Text, Steps}
 
@@ -21,12 +21,19 @@ is_memory Paused = inr (λ h. cc)
 is_memory (Verdict v) = inr (λ h. cc)
 is_memory (RetentionPassed earliest) = inr (λ h. cc)
 is_memory (Refused refusal) = inr (λ h. cc)
+is_memory LinkFault = inr (λ h. cc)
+is_memory (Breach breach) = inr (λ h. cc)
+is_memory (Stalled token count) = inr (λ h. cc)
+is_memory JournalFault = inr (λ h. cc)
 is_memory OutputFault = inr (λ h. cc)
 is_memory SourceFault = inr (λ h. cc)
 is_memory ConsoleFault = inr (λ h. cc)
 is_memory (BadWords place) = inr (λ h. cc)
 is_memory (BadScript line cause) = inr (λ h. cc)
-is_memory (OutputNotEmpty n) = inr (λ h. cc)
+is_memory (OtherJournal other) = inr (λ h. cc)
+is_memory (BadJournal gate) = inr (λ h. cc)
+is_memory (Full length) = inr (λ h. cc)
+is_memory (OutputNotEmpty count) = inr (λ h. cc)
 is_memory (BadOutput line) = inr (λ h. cc)
 is_memory Memory = inl refl
 

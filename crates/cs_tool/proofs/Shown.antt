@@ -1,20 +1,19 @@
 -- What show has to say, by its status.
 use Rattle.std.proofs.Common.{◌≡◌, ℕ, List, Option, None, Some, subst}
-use Rattle.std.specs.Io.KnownBytes.{Keeps}
 use Rattle.cs_ddl.specs.declared.tree.ReadQuery.{ReadQuery}
 use Rattle.cs_link.specs.declared.refusal.ReadRefusal.{ReadRefusal}
 use Rattle.cs_script.specs.Database.{Database}
 use Rattle.cs_script.specs.declared.fault.LineCause.{LineCause}
 use Rattle.cs_words.specs.Words.{IsCommand}
 use Rattle.cs_words.specs.declared.command.Command.{Command}
-use Rattle.cs_tool.specs.Answers.{KeepsFilled, IsShowStatus, IsPastScript}
+use Rattle.cs_tool.specs.Answers.{IsShowStatus, IsPastScript}
 use Rattle.cs_tool.specs.Database.{OnScript, IsBadScript}
 use Rattle.cs_tool.specs.Run.{OnCommand}
 use Rattle.cs_tool.specs.Said.{status_said, IsShown}
 use Rattle.cs_tool.specs.Show.{IsRead, IsReadTooOld, IsReadRefused, IsShowFault}
 use Rattle.std.specs.Prelude.{IfSome}
 use Rattle.cs_tool.specs.declared.status.Status.{Status}
-use Rattle.cs_tool.specs.declared.status.Status.TheVariants.{Ended, Paused, Verdict, RetentionPassed, Refused, OutputFault, SourceFault, ConsoleFault, BadWords, BadScript, OutputNotEmpty, BadOutput, Memory}
+use Rattle.cs_tool.specs.declared.status.Status.TheVariants.{Ended, Paused, Verdict, RetentionPassed, Refused, LinkFault, Breach, Stalled, JournalFault, OutputFault, SourceFault, ConsoleFault, BadWords, BadScript, OtherJournal, BadJournal, Full, OutputNotEmpty, BadOutput, Memory}
 use Rattle.cs_tool.specs.declared.top.Said.{Said}
 use Rattle.cs_tool.specs.declared.top.Said.TheVariants.{Line, Text, Steps}
 
@@ -22,12 +21,7 @@ use Rattle.cs_tool.specs.declared.top.Said.TheVariants.{Line, Text, Steps}
 pub on_command : (words : List (List ℕ)) (command other : Command) (P : Command → Type 0) → IsCommand words command → command ≡ other → P other → OnCommand words P
 on_command words command other P is same p = (other, subst (λ (c : Command). IsCommand words c) same is, p)
 
--- what is kept is kept where it had bytes
-pub keeps_filled : (old new : Option (List ℕ)) → Keeps old new → KeepsFilled old new
-keeps_filled None new kept = tt
-keeps_filled (Some bytes) new kept = λ some. kept
-
-map_script : (source : Option (List ℕ)) (P Q : Database → Type 0) → ((db : Database) → P db → Q db) → OnScript source P → OnScript source Q
+pub map_script : (source : Option (List ℕ)) (P Q : Database → Type 0) → ((db : Database) → P db → Q db) → OnScript source P → OnScript source Q
 map_script None P Q f on = tt
 map_script (Some bytes) P Q f (db, made, p) = (db, made, f db p)
 
@@ -63,17 +57,24 @@ module _ (source : Option (List ℕ)) (before now : ℕ) (query : ReadQuery) (mo
 
   status_answers : (status : Status) → IsShowFault source before now query moment status → IsShowStatus status
   status_answers Ended is = absurd is
-  status_answers Paused is = is
-  status_answers (Verdict v) is = is
+  status_answers Paused is = absurd is
+  status_answers (Verdict v) is = absurd is
   status_answers (RetentionPassed earliest) is = tt
   status_answers (Refused refusal) is = tt
-  status_answers OutputFault is = is
+  status_answers LinkFault is = absurd is
+  status_answers (Breach breach) is = absurd is
+  status_answers (Stalled token count) is = absurd is
+  status_answers JournalFault is = absurd is
+  status_answers OutputFault is = absurd is
   status_answers SourceFault is = tt
-  status_answers ConsoleFault is = is
-  status_answers (BadWords place) is = is
+  status_answers ConsoleFault is = absurd is
+  status_answers (BadWords place) is = absurd is
   status_answers (BadScript line cause) is = tt
-  status_answers (OutputNotEmpty n) is = is
-  status_answers (BadOutput line) is = is
+  status_answers (OtherJournal other) is = absurd is
+  status_answers (BadJournal gate) is = absurd is
+  status_answers (Full length) is = absurd is
+  status_answers (OutputNotEmpty count) is = absurd is
+  status_answers (BadOutput line) is = absurd is
   status_answers Memory is = tt
 
   pub shown_answers : (said : Said) → IsShown source before now query moment said → IsShowStatus (status_said said)
@@ -87,12 +88,19 @@ module _ (source : Option (List ℕ)) (before now : ℕ) (query : ReadQuery) (mo
   status_next (Verdict v) is past = absurd is
   status_next (RetentionPassed earliest) is past = map_script source (IsReadTooOld query moment earliest) (λ db. Unit {0}) (λ db h. tt) is
   status_next (Refused refusal) is past = map_script source (IsReadRefused query moment refusal) (λ db. Unit {0}) (λ db h. tt) is
+  status_next LinkFault is past = absurd is
+  status_next (Breach breach) is past = absurd is
+  status_next (Stalled token count) is past = absurd is
+  status_next JournalFault is past = absurd is
   status_next OutputFault is past = absurd is
   status_next SourceFault is past = absurd past
   status_next ConsoleFault is past = absurd is
   status_next (BadWords place) is past = absurd is
   status_next (BadScript line cause) is past = absurd past
-  status_next (OutputNotEmpty n) is past = absurd is
+  status_next (OtherJournal other) is past = absurd is
+  status_next (BadJournal gate) is past = absurd is
+  status_next (Full length) is past = absurd is
+  status_next (OutputNotEmpty count) is past = absurd is
   status_next (BadOutput line) is past = absurd is
   status_next Memory is past = absurd past
 

@@ -1,6 +1,5 @@
 -- What the parts of a run answer, this project's own.
 use Rattle.std.specs.Prelude.{◌≡◌, ◌≢◌, ◌⊎◌, ◌<◌, ℕ, List, length, Option, Some, None, IfSome, ⊤}
-use Rattle.std.specs.Io.KnownBytes.{Keeps}
 use Rattle.cs_types.specs.declared.names.Window.{Window}
 use Rattle.cs_schema.specs.declared.types.Stream.{Stream}
 use Rattle.cs_device.specs.Causes.{Rose}
@@ -15,17 +14,13 @@ use Rattle.cs_link.specs.declared.refusal.ReadRefusal.{ReadRefusal}
 use Rattle.cs_script.specs.Database.{Database}
 use Rattle.cs_tool.specs.Database.{IsStreamIn, HasNoStream, wanted_in, IsBadScript}
 use Rattle.cs_tool.specs.declared.status.Status.{Status}
-use Rattle.cs_tool.specs.declared.status.Status.TheVariants.{Ended, Paused, Verdict, RetentionPassed, Refused, OutputFault, SourceFault, ConsoleFault, BadWords, BadScript, OutputNotEmpty, BadOutput, Memory}
+use Rattle.cs_tool.specs.declared.status.Status.TheVariants.{Ended, Paused, Verdict, RetentionPassed, Refused, Breach, Stalled, JournalFault, OutputFault, SourceFault, ConsoleFault, BadWords, BadScript, OtherJournal, BadJournal, Full, OutputNotEmpty, BadOutput, Memory}
 
 -- an object that told its bytes tells them still, and they are so
 abbrev pub OnTold : Option (List ℕ) → Option (List ℕ) → (List ℕ → Type 0) → Type 0
 OnTold None new P = ⊤
 OnTold (Some old) None P = ⊥
 OnTold (Some old) (Some new) P = P new
-
--- where there were bytes, they stand
-abbrev pub KeepsFilled : Option (List ℕ) → Option (List ℕ) → Type 0
-KeepsFilled old new = IfSome old (λ bytes. 0 < length bytes → Keeps old new)
 
 -- the text is complete for what the window wants of the database
 pub record IsCompleteIn (db : Database) (w : Window) (text : List ℕ) : Type 0 where
@@ -59,12 +54,6 @@ IsLoadStatus source before now (BadScript line cause) = IfSome source (IsBadScri
 IsLoadStatus source before now Memory = ⊤
 IsLoadStatus source before now _ = ⊥
 
--- the output was not empty, or its length was not told
-abbrev pub IsLengthStatus : Option (List ℕ) → ℕ → ℕ → Status → Type 0
-IsLengthStatus old before now OutputFault = Rose before now
-IsLengthStatus old before now (OutputNotEmpty n) = (0 < n) × IfSome old (λ bytes. n ≡ length bytes)
-IsLengthStatus old before now _ = ⊥
-
 -- what the text was found to be against what the window wants of the database
 abbrev pub IsAuditStatus : Database → Window → Stream → List ℕ → Status → Type 0
 IsAuditStatus db w s text Ended = IsComplete text (wanted_in db s w.start w.end) w.end
@@ -79,9 +68,15 @@ IsReplayStatus Ended = ⊤
 IsReplayStatus Paused = ⊤
 IsReplayStatus (RetentionPassed earliest) = ⊤
 IsReplayStatus (Refused refusal) = ⊤
+IsReplayStatus (Breach breach) = ⊤
+IsReplayStatus (Stalled token count) = ⊤
+IsReplayStatus JournalFault = ⊤
 IsReplayStatus OutputFault = ⊤
 IsReplayStatus SourceFault = ⊤
 IsReplayStatus (BadScript line cause) = ⊤
+IsReplayStatus (OtherJournal other) = ⊤
+IsReplayStatus (BadJournal place) = ⊤
+IsReplayStatus (Full length) = ⊤
 IsReplayStatus (OutputNotEmpty n) = ⊤
 IsReplayStatus Memory = ⊤
 IsReplayStatus _ = ⊥

@@ -31,6 +31,12 @@ IsRefusedAs db w moment ReadRefusal.StartBeforeCreation = (s : Stream) × IsStre
 IsRefusedAs db w moment (ReadRefusal.StartInFuture at) = (s : Stream) × IsStreamIn db w.stream s × (s.created ≤ w.start) × (at ≡ moment) × (at < w.end)
 IsRefusedAs db w moment _ = ⊥
 
+-- the window was not followed: there is no such stream, or it was created after the start
+abbrev pub IsBarred : Database → Window → ReadRefusal → Type 0
+IsBarred db w ReadRefusal.UnknownFunction = HasNoStream db w.stream
+IsBarred db w ReadRefusal.StartBeforeCreation = (s : Stream) × IsStreamIn db w.stream s × (w.start < s.created)
+IsBarred db w _ = ⊥
+
 -- the start is below the earliest moment that the stream keeps at a moment
 pub record IsPassed (db : Database) (w : Window) (moment earliest : ℕ) : Type 0 where
   pub stream : Stream

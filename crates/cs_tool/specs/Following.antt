@@ -1,74 +1,73 @@
--- What a follower makes of a window of a scripted stream, over the server of the script's database. This project's own.
-use Rattle.std.specs.Prelude.{◌≡◌, ◌<◌, ◌≤◌, ℕ, ◌-◌, List, Contains, ⊤}
+-- What becomes of a book whose window is followed over the server of a script's database. This project's own.
+use Rattle.std.specs.Prelude.{◌≡◌, ◌≤◌, ℕ, List, Option, IfSome, false, ⊤}
 use Rattle.cs_types.specs.declared.names.Window.{Window}
-use Rattle.cs_schema.specs.declared.types.Stream.{Stream}
-use Rattle.cs_link.specs.declared.refusal.ReadRefusal.{ReadRefusal}
-use Rattle.cs_output.specs.Output.{IsGood, IsComplete}
+use Rattle.cs_device.specs.Crash.{Crash, CrashesLeave}
+use Rattle.cs_link.specs.declared.feed.Feed.{Feed}
 use Rattle.cs_schedule.specs.declared.entry.Entry.{Entry}
-use Rattle.cs_schedule.specs.Rows.{Folds}
-use Rattle.cs_schedule.specs.Spelling.{IsInFormat}
 use Rattle.cs_script.specs.Database.{Database}
-use Rattle.cs_tail.specs.declared.outcome.Outcome.{Outcome}
+use Rattle.cs_server.specs.Laws.{IsFeedOf}
 use Rattle.cs_text.specs.Output.{output_of}
-use Rattle.cs_tool.specs.Answers.{IsCompleteIn, IsGoodIn}
-use Rattle.cs_tool.specs.Database.{IsStreamIn, HasNoStream, wanted_in, IsRefusedAs, IsPassed}
+use Rattle.cs_book.specs.Book.{BookState, AreEntriesOf}
+use Rattle.cs_book.specs.Entries.{HoldsSuch}
+use Rattle.cs_follow.specs.declared.outcome.Outcome.{Outcome}
+use Rattle.cs_follow.specs.declared.outcome.Pace.{Pace}
+use Rattle.cs_follow.specs.Own.{AreFollowing}
+use Rattle.cs_tool.specs.Answers.{IsGoodIn}
+use Rattle.cs_tool.specs.Journal.{HasCauseIn, IsRightIn}
 use Rattle.cs_tool.specs.declared.status.Status.{Status}
-use Rattle.cs_tool.specs.declared.status.Status.TheVariants.{Ended, Paused, RetentionPassed, Refused, Memory}
-
--- why a follower of the stream stops, at a moment: it never does so for a fault of the link or of the server
-abbrev pub StopsAt : Stream → Window → ℕ → Outcome → Type 0
-StopsAt s w moment Outcome.Ended = ⊤
-StopsAt s w moment Outcome.Paused = moment < w.end
-StopsAt s w moment (Outcome.RetentionPassed earliest) = (earliest ≡ moment - s.retention_us) × (w.start < earliest)
-StopsAt s w moment (Outcome.Refused (ReadRefusal.StartInFuture at)) = (at ≡ moment) × (at < w.end)
-StopsAt s w moment (Outcome.Refused _) = ⊥
-StopsAt s w moment Outcome.LinkFault = ⊥
-StopsAt s w moment (Outcome.Breach breach) = ⊥
-StopsAt s w moment (Outcome.Stalled token count) = ⊥
-
--- what a follower of the stream made: entries whose output is right as far as it goes, and complete where it has ended
-pub record IsRun (db : Database) (w : Window) (s : Stream) (moment : ℕ) (outcome : Outcome) (es : List Entry) : Type 0 where
-  pub folds : Folds w es
-  pub in_format : (e : Entry) → Contains es e → IsInFormat e
-  pub good : IsGood (output_of w es) (wanted_in db s w.start w.end) w.end
-  pub ended : outcome ≡ Outcome.Ended → IsComplete (output_of w es) (wanted_in db s w.start w.end) w.end
-  pub stops : StopsAt s w moment outcome
-
--- an outcome that a follower of a scripted stream may have
-abbrev pub IsToBeSaid : Outcome → Type 0
-IsToBeSaid Outcome.LinkFault = ⊥
-IsToBeSaid (Outcome.Breach breach) = ⊥
-IsToBeSaid (Outcome.Stalled token count) = ⊥
-IsToBeSaid _ = ⊤
+use Rattle.cs_tool.specs.declared.status.Status.TheVariants.{Ended, Paused, RetentionPassed, Refused, LinkFault, Breach, Stalled, JournalFault, OutputFault, Full, Memory}
 
 -- the status by which an outcome is said
-abbrev pub IsSaidBy : Outcome → Status → Type 0
-IsSaidBy Outcome.Ended status = status ≡ Ended
-IsSaidBy Outcome.Paused status = status ≡ Paused
-IsSaidBy (Outcome.RetentionPassed earliest) status = status ≡ RetentionPassed earliest
-IsSaidBy (Outcome.Refused refusal) status = status ≡ Refused refusal
-IsSaidBy _ status = ⊥
+abbrev pub IsSaidOf : Outcome → Status → Type 0
+IsSaidOf Outcome.Ended status = status ≡ Ended
+IsSaidOf Outcome.Paused status = status ≡ Paused
+IsSaidOf (Outcome.RetentionPassed earliest) status = status ≡ RetentionPassed earliest
+IsSaidOf (Outcome.Refused refusal) status = status ≡ Refused refusal
+IsSaidOf Outcome.LinkFault status = status ≡ LinkFault
+IsSaidOf (Outcome.Breach breach) status = status ≡ Breach breach
+IsSaidOf (Outcome.Stalled token count) status = status ≡ Stalled token count
+IsSaidOf Outcome.JournalFault status = status ≡ JournalFault
+IsSaidOf Outcome.OutputFault status = status ≡ OutputFault
+IsSaidOf (Outcome.Full length) status = status ≡ Full length
+IsSaidOf Outcome.Memory status = status ≡ Memory
 
--- the text that is left with a refusal: only a start above the moment is refused once there is a text
-abbrev pub IsRefusedIn : Database → Window → ℕ → List ℕ → ReadRefusal → Type 0
-IsRefusedIn db w moment text (ReadRefusal.StartInFuture at) = IsGoodIn db w text × IsRefusedAs db w moment (ReadRefusal.StartInFuture at)
-IsRefusedIn db w moment text _ = ⊥
+-- an answer of a follower of the window
+abbrev pub IsFollowStatus : Status → Type 0
+IsFollowStatus Ended = ⊤
+IsFollowStatus Paused = ⊤
+IsFollowStatus (RetentionPassed earliest) = ⊤
+IsFollowStatus (Refused refusal) = ⊤
+IsFollowStatus (Breach breach) = ⊤
+IsFollowStatus (Stalled token count) = ⊤
+IsFollowStatus JournalFault = ⊤
+IsFollowStatus OutputFault = ⊤
+IsFollowStatus (Full length) = ⊤
+IsFollowStatus Memory = ⊤
+IsFollowStatus _ = ⊥
 
--- the text that a follower left, and the status that says why it stopped
-abbrev pub IsToldAs : Database → Window → ℕ → List ℕ → Status → Type 0
-IsToldAs db w moment text Ended = IsCompleteIn db w text
-IsToldAs db w moment text Paused = IsGoodIn db w text × (moment < w.end)
-IsToldAs db w moment text (RetentionPassed earliest) = IsGoodIn db w text × IsPassed db w moment earliest
-IsToldAs db w moment text (Refused refusal) = IsRefusedIn db w moment text refusal
-IsToldAs db w moment text _ = ⊥
+-- a follower stopped with this status over a book whose journal has not failed: the status has its cause, over the book's entries; and over entries that followed the feed at the start, it is right
+pub record IsStoppedIn {J O : Type 0} (seen : J → Option (List ℕ)) (text : O → Option (List ℕ)) (db : Database) (w : Window) (pace : Pace) (moment : ℕ) (before : List Entry) (new : BookState J O) (es : List Entry) (status : Status) : Type 0 where
+  pub journal : new.journal.failed ≡ false
+  pub entries : AreEntriesOf seen text new es
+  pub cause : HasCauseIn db w pace moment new.journal.gate es status
+  pub right : (f : Feed) → IsFeedOf db w.stream f → AreFollowing f w before → f.created ≤ w.start → IsGoodIn db w (output_of w es) × IsRightIn db w moment (output_of w es) status
 
--- the window was not followed: there is no such stream, or it was created after the start
-abbrev pub IsBarred : Database → Window → ReadRefusal → Type 0
-IsBarred db w ReadRefusal.UnknownFunction = HasNoStream db w.stream
-IsBarred db w ReadRefusal.StartBeforeCreation = (s : Stream) × IsStreamIn db w.stream s × (w.start < s.created)
-IsBarred db w _ = ⊥
+-- why it stopped: a call of a disk failed, or memory was wanting, or it has its cause
+abbrev pub StopsBy : {J O : Type 0} (seen : J → Option (List ℕ)) (text : O → Option (List ℕ)) → Type 0 → Type 0 → Database → Window → Pace → ℕ → List Entry → BookState J O → List Entry → Status → Type 0
+StopsBy seen text rosej roseo db w pace moment before new es JournalFault = rosej
+StopsBy seen text rosej roseo db w pace moment before new es OutputFault = roseo
+StopsBy seen text rosej roseo db w pace moment before new es Memory = ⊤
+StopsBy seen text rosej roseo db w pace moment before new es status = IsStoppedIn seen text db w pace moment before new es status
 
-abbrev pub IsNotFollowed : Database → Window → Status → Type 0
-IsNotFollowed db w (Refused refusal) = IsBarred db w refusal
-IsNotFollowed db w Memory = ⊤
-IsNotFollowed db w _ = ⊥
+-- what a follower of the window leaves of a book that held these entries: others that follow the feed where these did, also at each crash since, and why it stopped
+pub record IsFollowedIn {J O : Type 0} (seen : J → Option (List ℕ)) (text : O → Option (List ℕ)) (crash : J → Crash) (rosej roseo : Type 0) (db : Database) (w : Window) (pace : Pace) (moment : ℕ) (old new : BookState J O) (es : List Entry) (status : Status) : Type 0 where
+  pub next : List Entry
+  pub follow : (f : Feed) → IsFeedOf db w.stream f → AreFollowing f w es → AreFollowing f w next
+  pub crashes : (f : Feed) → IsFeedOf db w.stream f → AreFollowing f w es → IfSome (seen old.journal.disk) (λ _. CrashesLeave (HoldsSuch (AreFollowing f w)) (crash old.journal.disk) (crash new.journal.disk))
+  pub stops : StopsBy seen text rosej roseo db w pace moment es new next status
+
+-- the disks that told their bytes tell bytes still, but where a call of one failed
+abbrev pub DisksTell : Status → Type 0 → Type 0
+DisksTell JournalFault tell = ⊤
+DisksTell OutputFault tell = ⊤
+DisksTell _ tell = tell

@@ -9,11 +9,12 @@ use Rattle.cs_output.specs.Output.{IsComplete}
 use Rattle.cs_schedule.specs.declared.entry.Entry.{Entry}
 use Rattle.cs_script.specs.Database.{Database}
 use Rattle.cs_script.specs.Script.{Makes}
-use Rattle.cs_tail.specs.declared.outcome.Outcome.TheVariants.{Ended}
+use Rattle.cs_follow.specs.declared.outcome.Outcome.TheVariants.{Ended}
+use Rattle.cs_follow.specs.declared.outcome.Pace.{Pace}
 use Rattle.cs_text.specs.Output.{output_of}
 use Rattle.cs_tool.specs.Answers.{IsBadText}
-use Rattle.cs_tool.specs.Database.{IsStreamIn, wanted_in, IsBadScript, IsPassed}
-use Rattle.cs_tool.specs.Following.{IsRun, IsBarred}
+use Rattle.cs_tool.specs.Database.{IsStreamIn, wanted_in, IsBadScript, IsPassed, IsBarred}
+use Rattle.cs_tool.specs.Journal.{StopsIn}
 use Rattle.cs_tool.specs.declared.status.Status.{Status}
 use Rattle.cs_tool.specs.declared.status.Status.TheVariants.{RetentionPassed, Refused, BadScript, BadOutput, Memory}
 
@@ -34,11 +35,22 @@ summary_text commits changes parts =
     codes "gen " ++ (decimal commits ++ (codes " commits " ++ (decimal commits ++ (codes " changes " ++ (decimal changes ++ (codes " parts " ++ (decimal parts
     ++ codes "\norder 0 Complete\norder 1 Complete\norder 2 Complete\n0 Ended\n")))))))
 
--- a follower of the window, over the server of the database at the window's end, has ended, and its output is complete
+-- a follower of the window, over the server of the database at the window's end, has ended with these entries
+abbrev pub HasEndedWith : Database → Window → List Entry → Type 0
+HasEndedWith db w es = (pace : Pace) × StopsIn db w pace w.end es Ended
+
+-- it has ended, and its output is complete
 pub record IsAudited (db : Database) (w : Window) (s : Stream) : Type 0 where
   pub entries : List Entry
-  pub run : IsRun db w s w.end Ended entries
+  pub ended : HasEndedWith db w entries
   pub complete : IsComplete (output_of w entries) (wanted_in db s w.start w.end) w.end
+
+-- the output of a follower that has ended, which is what its entries tell, and is complete
+pub record IsLeftAtEnd (db : Database) (w : Window) (s : Stream) (text : List ℕ) : Type 0 where
+  pub entries : List Entry
+  pub ended : HasEndedWith db w entries
+  pub text_is : text ≡ output_of w entries
+  pub complete : IsComplete text (wanted_in db s w.start w.end) w.end
 
 -- the summary of the script of so many commits; the output of each order was audited as complete
 pub record IsSummary (commits : ℕ) (text : List ℕ) : Type 0 where
@@ -53,7 +65,7 @@ pub record IsSummary (commits : ℕ) (text : List ℕ) : Type 0 where
 -- the output of a window was not audited as complete: its start is not kept any more, or this line of what a follower left is none
 abbrev pub IsAuditFault : Database → Window → Stream → Status → Type 0
 IsAuditFault db w s (RetentionPassed earliest) = (earliest ≡ w.end - s.retention_us) × (w.start < earliest)
-IsAuditFault db w s (BadOutput line) = (entries : List Entry) × IsRun db w s w.end Ended entries × IsBadText line (output_of w entries)
+IsAuditFault db w s (BadOutput line) = (entries : List Entry) × HasEndedWith db w entries × IsBadText line (output_of w entries)
 IsAuditFault db w s Memory = ⊤
 IsAuditFault db w s _ = ⊥
 
@@ -71,7 +83,7 @@ IsPassedGenerated commits earliest = OnGenerated commits (λ db. IsPassed db gen
 
 -- this line of what a follower left is none
 abbrev pub IsBadGenerated : ℕ → ℕ → Type 0
-IsBadGenerated commits line = OnGenerated commits (λ db. (s : Stream) × IsStreamIn db (codes "G") s × (entries : List Entry) × IsRun db generated_window s end_stamp Ended entries × IsBadText line (output_of generated_window entries))
+IsBadGenerated commits line = OnGenerated commits (λ db. (s : Stream) × IsStreamIn db (codes "G") s × (entries : List Entry) × HasEndedWith db generated_window entries × IsBadText line (output_of generated_window entries))
 
 -- no summary was made
 abbrev pub IsGenStatus : ℕ → Status → Type 0

@@ -4,7 +4,7 @@ ghost use Rattle.std.specs.Io.KnownBytes.{Keeps};
 ghost use Rattle.cs_device.specs.Causes.{Rose};
 ghost use Rattle.cs_tool.specs.Database.{IsBadScript, HasNoStream, IsStreamIn, OnScript};
 ghost use Rattle.cs_tool.specs.Answers.{IsCompleteIn, IsJudgedIn, IsBadTextIn, IsReadStatus, IsAuditStatus, IsRefusedHere, IsCheckStatus, IsPastScript};
-ghost use Rattle.cs_tool.specs.Run.{IsBeforeOutput};
+ghost use Rattle.cs_tool.specs.Run.{IsBeforeFiles};
 ghost use Rattle.cs_tool.specs.declared.status.Status.TheVariants as status;
 
 use crate::Status;
@@ -33,7 +33,7 @@ pub(crate) fn check<S: Source, O: Disk>(
     ensures source_fault { result ≡ status.SourceFault → Rose (S.faults script.old) (S.faults script.new) }
     ensures bad_script { (line : ℕ) (cause : _) → result ≡ status.BadScript line cause → IfSome (S.left script.old) (IsBadScript line cause) }
     ensures answers { IsCheckStatus result }
-    ensures untouched { IsBeforeOutput result → output.new ≡ output.old }
+    ensures untouched { IsBeforeFiles result → output.new ≡ output.old }
     ensures next { IsPastScript result → OnScript (S.left script.old) (λ db. Unit {0}) }
     ensures kept { Keeps (O.seen output.old) (O.seen output.new) }
     ensures script_object { S.same script.old script.new }

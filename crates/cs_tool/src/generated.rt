@@ -1,25 +1,35 @@
 // The generator's script, replayed and audited in memory.
-ghost use Rattle.std.specs.Prelude.{◌≡◌, ◌≢◌, ◌≤◌, ◌++◌, ℕ, List, codes, length, slice_get, Some, Ok, IfOk, IfErr, OnOk, MatchOption, Contains, string_bytes};
+ghost use Rattle.std.specs.Prelude.{◌≡◌, ◌≢◌, ◌≤◌, ◌++◌, ℕ, List, [], codes, length, slice_get, false, Some, Ok, IfOk, IfErr, OnOk, MatchOption, Contains, string_bytes};
+ghost use Rattle.cs_device.specs.Memory.{seen_of};
 ghost use Rattle.cs_generator.specs.Generated.{IsSize, script_text as generated_text};
 ghost use Rattle.cs_script.specs.Script.{Makes};
 ghost use Rattle.cs_schema.specs.declared.types.Stream.{Stream as StreamValue};
 ghost use Rattle.cs_partitions.specs.Layout.{StreamParts};
+ghost use Rattle.cs_link.specs.declared.feed.Feed.{Feed};
+ghost use Rattle.cs_schedule.specs.declared.entry.Entry.{Entry};
+ghost use Rattle.cs_book.specs.Book.{IsRunning, AreEntriesOf};
+ghost use Rattle.cs_book.specs.Waiting.{AreFree};
+ghost use Rattle.cs_follow.specs.Own.{AreFollowing};
 ghost use Rattle.cs_tool.specs.Database.{IsStreamIn, HasNoStream};
-ghost use Rattle.cs_tool.specs.Gen.{generated_window, IsPlacedIn, IsSummary, IsGenStatus, IsAudited, IsAuditFault, summary_text};
+ghost use Rattle.cs_tool.specs.Gen.{generated_window, IsPlacedIn, IsSummary, IsGenStatus, IsAudited, IsAuditFault, IsLeftAtEnd, summary_text};
+ghost use Rattle.cs_tool.specs.Said.{IsMemory};
 
 use crate::Status;
 use crate::check::judge;
 use crate::database::{changes_in, database_of};
-use crate::following::{Going, followed, status_of};
+use crate::following::{Going, follow_window};
 use crate::sure::SureSource;
+use cs_book::Book;
+use cs_device::{Disk, MemDisk};
+use cs_follow::Pace;
 use cs_generator::{STREAM, script_text, window_end, window_start};
 use cs_link::{Limits, ReadRefusal};
 use cs_partitions::Layout;
-use cs_read::states_are_kept;
+use cs_read::{states_are_kept, streams_are_sound};
+use cs_schedule::journals_stay_consistent;
 use cs_schema::Stream;
 use cs_script::ServerState;
-use cs_tail::Pace;
-use cs_text::text_of;
+use cs_server::feeds_are_told_by_name;
 use cs_types::{Items, Memory, Text, Window};
 use std::alloc::Global;
 
@@ -28,6 +38,12 @@ const LIMITS: Limits = Limits {
     records: 1024,
     bytes: 1_048_576,
 };
+
+/// How many bytes the disk of an audited follower takes.
+const ROOM: u64 = 33_554_432;
+
+/// How many calls it takes.
+const CALLS: u64 = 1_000_000;
 
 /// What is printed of the script of so many commits: how many commits, wanted changes and parts it
 /// has, and for each of three orders that its output was audited as complete; then the last line.
@@ -112,6 +128,7 @@ fn all_audited(
     requires there { IsStreamIn state.now window.now.stream stream.now }
     requires created { stream.now.created ≤ window.now.start }
     requires order { window.now.start ≤ window.now.end }
+    requires name { length window.now.stream ≤ 128 }
     ensures complete { OnOk result (IsAudited state.now window.now stream.now) }
     ensures refused { IfErr result (IsAuditFault state.now window.now stream.now) }
 {
@@ -131,9 +148,36 @@ fn audited(
     requires there { IsStreamIn state.now window.now.stream stream.now }
     requires created { stream.now.created ≤ window.now.start }
     requires order { window.now.start ≤ window.now.end }
+    requires name { length window.now.stream ≤ 128 }
     ensures complete { OnOk result (IsAudited state.now window.now stream.now) }
     ensures refused { IfErr result (IsAuditFault state.now window.now stream.now) }
 {
+    let output = followed(alloc, state, stream, window, order)?;
+    match judge(alloc, state, stream, window, output.bytes()) {
+        Status::Ended => Ok(()),
+        status => Err(status),
+    }
+}
+
+/// The output that such a follower leaves where it has ended.
+fn followed(
+    alloc: Global,
+    state: &ServerState,
+    stream: &Stream,
+    window: &Window,
+    order: u64,
+) -> Result<MemDisk, Status>
+    requires there { IsStreamIn state.now window.now.stream stream.now }
+    requires created { stream.now.created ≤ window.now.start }
+    requires order { window.now.start ≤ window.now.end }
+    requires name { length window.now.stream ≤ 128 }
+    ensures ended { IfOk result (λ output. IsLeftAtEnd state.now window.now stream.now (seen_of output)) }
+    ensures refused { IfErr result (IsAuditFault state.now window.now stream.now) }
+{
+    states_are_kept(state);
+    streams_are_sound();
+    feeds_are_told_by_name();
+    let mut book = book_in_memory(alloc, window)?;
     let going = Going {
         pace: Pace {
             order,
@@ -142,16 +186,41 @@ fn audited(
         },
         moment: window.end,
     };
-    let (outcome, entries) = followed(alloc, state, stream, window, &going)?;
-    let text = text_of(alloc, entries.as_slice())?;
-    match status_of(outcome) {
-        Status::Ended => (),
-        status => return Err(status),
-    }
-    match judge(alloc, state, stream, window, text.as_str().as_bytes()) {
-        Status::Ended => Ok(()),
+    let status = follow_window(alloc, state, &mut book, window, &going);
+    let (_journal, output) = book.close();
+    match status {
+        Status::Ended => Ok(output),
+        Status::JournalFault => Err(Status::Memory),
+        Status::OutputFault => Err(Status::Memory),
+        Status::Full(_) => Err(Status::Memory),
         status => Err(status),
     }
+}
+
+/// A book of the window over disks in memory that were empty; its entries follow each feed.
+fn book_in_memory(alloc: Global, window: &Window) -> Result<Book<MemDisk, MemDisk>, Status>
+    requires order { window.now.start ≤ window.now.end }
+    requires name { length window.now.stream ≤ 128 }
+    ensures running { IfOk result IsRunning }
+    ensures free { IfOk result (λ b. AreFree b.board.rows × (b.is_opening ≡ false)) }
+    ensures window { IfOk result (λ b. b.board.window ≡ window.now) }
+    ensures entries { IfOk result (λ b. (es : List Entry) × AreEntriesOf ⟦<MemDisk as Disk>⟧.seen ⟦<MemDisk as Disk>⟧.seen b es × ((f : Feed) → AreFollowing f window.now es)) }
+    ensures refused { IfErr result IsMemory }
+{
+    journals_stay_consistent();
+    let journal = disk_in_memory(alloc)?;
+    let output = disk_in_memory(alloc)?;
+    match Book::open(alloc, journal, output, window) {
+        Ok(book) => Ok(book),
+        Err((_fault, _journal, _output)) => Err(Status::Memory),
+    }
+}
+
+/// An empty disk in memory.
+fn disk_in_memory(alloc: Global) -> Result<MemDisk, Memory>
+    ensures { IfOk result (λ disk. seen_of disk ≡ []) }
+{
+    MemDisk::new(alloc, Items::new(alloc), ROOM, CALLS, Items::new(alloc))
 }
 
 fn summary_text(alloc: Global, commits: u64, changes: usize, parts: usize) -> Result<String, Memory>

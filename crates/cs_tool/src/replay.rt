@@ -1,27 +1,29 @@
-// The replay of a window on an empty output.
-ghost use Rattle.std.specs.Prelude.{◌≡◌, ◌≤◌, ◌<◌, ℕ, [], length, IfErr, IfSome, OnErr, OnOk};
-ghost use Rattle.std.specs.Io.KnownBytes.{Keeps};
+// The replay of a window, over the journal and the output that earlier runs left.
+ghost use Rattle.std.specs.Prelude.{◌≡◌, ◌≤◌, ◌⊎◌, ℕ, length, IfSome};
 ghost use Rattle.cs_device.specs.Causes.{Rose};
-ghost use Rattle.cs_tool.specs.Database.{IsBadScript, IsRefusedAs, IsPassed, OnScript};
-ghost use Rattle.cs_tool.specs.Answers.{OnTold, KeepsFilled, IsCompleteIn, IsGoodIn, IsLengthStatus, IsReplayStatus, IsPastScript};
-ghost use Rattle.cs_tool.specs.Left.{IsLeftAs};
-ghost use Rattle.cs_tool.specs.Run.{IsBeforeOutput, LeavesRefused};
+ghost use Rattle.cs_book.specs.declared.fault.OpenFault.{OpenFault as Fault};
+ghost use Rattle.cs_tool.specs.Answers.{IsReplayStatus, IsPastScript};
+ghost use Rattle.cs_tool.specs.Database.{OnScript, IsBadScript};
+ghost use Rattle.cs_tool.specs.Journal.{files, HasReplayed, Survives, IsOpenStatus, IsNotOpened};
+ghost use Rattle.cs_tool.specs.Run.{IsBeforeFiles};
 ghost use Rattle.cs_tool.specs.declared.status.Status.TheVariants as status;
 
 use crate::Status;
 use crate::database::database_of;
-use crate::following::{Going, told};
+use crate::following::{Going, follow_window};
+use cs_book::{Book, OpenFault};
 use cs_device::{Disk, Source};
+use cs_schedule::{journals_stay_consistent, payloads_differ};
 use cs_script::ServerState;
-use cs_types::{Text, Window};
+use cs_types::Window;
 use std::alloc::Global;
 
-/// Reads the script, follows the window over a server of what it makes, and writes on an empty
-/// output what the follower's entries tell: lines of changes and of watermarks.
-#[tactic(auto, using(crate::proofs::Leaving::left_ended, crate::proofs::Leaving::left_paused, crate::proofs::Leaving::left_passed, crate::proofs::Leaving::left_refused))]
-pub(crate) fn replay<S: Source, O: Disk>(
+/// Reads the script, opens the book that the journal and the output are, and follows the window over
+/// a server of what the script makes.
+pub(crate) fn replay<S: Source, J: Disk, O: Disk>(
     alloc: Global,
     script: &mut S,
+    journal: &mut J,
     output: &mut O,
     window: &Window,
     going: &Going,
@@ -29,59 +31,34 @@ pub(crate) fn replay<S: Source, O: Disk>(
     requires turns { 1 ≤ going.now.pace.turns }
     requires records { (1 ≤ going.now.pace.limits.records) × (going.now.pace.limits.records ≤ 8192) }
     requires order { window.now.start ≤ window.now.end }
-    ensures ended { result ≡ status.Ended → OnScript (S.left script.old) (λ db. OnTold (O.seen output.old) (O.seen output.new) (IsCompleteIn db window.now)) }
-    ensures empty { result ≡ status.Ended → IfSome (O.seen output.old) (λ bytes. bytes ≡ []) }
-    ensures paused { result ≡ status.Paused → OnScript (S.left script.old) (λ db. OnTold (O.seen output.old) (O.seen output.new) (IsGoodIn db window.now) × (going.now.moment < window.now.end)) }
-    ensures paused_empty { result ≡ status.Paused → IfSome (O.seen output.old) (λ bytes. bytes ≡ []) }
-    ensures retention { (earliest : ℕ) → result ≡ status.RetentionPassed earliest → OnScript (S.left script.old) (λ db. IsPassed db window.now going.now.moment earliest × OnTold (O.seen output.old) (O.seen output.new) (IsGoodIn db window.now)) }
-    ensures refused { (refusal : _) → result ≡ status.Refused refusal → OnScript (S.left script.old) (λ db. IsRefusedAs db window.now going.now.moment refusal × LeavesRefused db window.now (O.seen output.old) (O.seen output.new) refusal) }
+    requires stream { length window.now.stream ≤ 128 }
+    ensures replayed { IsPastScript result → OnScript (S.left script.old) (λ db. HasReplayed db window.now going.now.pace going.now.moment (files (J.seen journal.old) (J.crash journal.old) (J.faults journal.old) (O.seen output.old) (O.crash output.old) (O.faults output.old)) (files (J.seen journal.new) (J.crash journal.new) (J.faults journal.new) (O.seen output.new) (O.crash output.new) (O.faults output.new)) result) }
+    ensures survives { (journal.new ≡ journal.old) ⊎ OnScript (S.left script.old) (λ db. Survives db window.now (files (J.seen journal.old) (J.crash journal.old) (J.faults journal.old) (O.seen output.old) (O.crash output.old) (O.faults output.old)) (files (J.seen journal.new) (J.crash journal.new) (J.faults journal.new) (O.seen output.new) (O.crash output.new) (O.faults output.new))) }
+    ensures journal_fault { result ≡ status.JournalFault → Rose (J.faults journal.old) (J.faults journal.new) }
     ensures output_fault { result ≡ status.OutputFault → Rose (O.faults output.old) (O.faults output.new) }
     ensures source_fault { result ≡ status.SourceFault → Rose (S.faults script.old) (S.faults script.new) }
     ensures bad_script { (line : ℕ) (cause : _) → result ≡ status.BadScript line cause → IfSome (S.left script.old) (IsBadScript line cause) }
-    ensures not_empty { (n : ℕ) → result ≡ status.OutputNotEmpty n → (0 < n) × IfSome (O.seen output.old) (λ bytes. n ≡ length bytes) × Keeps (O.seen output.old) (O.seen output.new) }
     ensures answers { IsReplayStatus result }
-    ensures untouched { IsBeforeOutput result → output.new ≡ output.old }
-    ensures next { IsPastScript result → OnScript (S.left script.old) (λ db. Unit {0}) }
-    ensures kept { KeepsFilled (O.seen output.old) (O.seen output.new) }
+    ensures untouched { IsBeforeFiles result → (journal.new ≡ journal.old) × (output.new ≡ output.old) }
     ensures script_object { S.same script.old script.new }
+    ensures journal_object { J.same journal.old journal.new }
     ensures output_object { O.same output.old output.new }
     ensures script_later { S.faults script.old ≤ S.faults script.new }
+    ensures journal_later { J.faults journal.old ≤ J.faults journal.new }
     ensures output_later { O.faults output.old ≤ O.faults output.new }
 {
     let state = match database_of(alloc, script) {
         Ok(state) => state,
         Err(status) => return status,
     };
-    match only_empty(output) {
-        Ok(()) => (),
-        Err(status) => return status,
-    }
-    write_followed(alloc, &state, output, window, going)
+    go_on(alloc, &state, journal, output, window, going)
 }
 
-/// That the output has no bytes.
-fn only_empty<O: Disk>(output: &mut O) -> Result<(), Status>
-    ensures empty { OnOk result (IfSome (O.seen output.old) (λ bytes. bytes ≡ [])) }
-    ensures still { OnOk result (IfSome (O.seen output.new) (λ bytes. bytes ≡ [])) }
-    ensures refused { IfErr result (IsLengthStatus (O.seen output.old) (O.faults output.old) (O.faults output.new)) }
-    ensures kept { Keeps (O.seen output.old) (O.seen output.new) }
-    ensures object { O.same output.old output.new }
-    ensures later { O.faults output.old ≤ O.faults output.new }
-{
-    let Ok(length) = output.len() else {
-        return Err(Status::OutputFault);
-    };
-    if length > 0 {
-        return Err(Status::OutputNotEmpty(length));
-    }
-    Ok(())
-}
-
-/// Writes on an empty output what a follower of the window leaves.
-#[tactic(auto, using(crate::proofs::Leaving::left_written, crate::proofs::Leaving::left_unread))]
-fn write_followed<O: Disk>(
+/// Opens the book, and follows its window.
+fn go_on<J: Disk, O: Disk>(
     alloc: Global,
     state: &ServerState,
+    journal: &mut J,
     output: &mut O,
     window: &Window,
     going: &Going,
@@ -89,35 +66,88 @@ fn write_followed<O: Disk>(
     requires turns { 1 ≤ going.now.pace.turns }
     requires records { (1 ≤ going.now.pace.limits.records) × (going.now.pace.limits.records ≤ 8192) }
     requires order { window.now.start ≤ window.now.end }
-    requires empty { IfSome (O.seen output.old) (λ bytes. bytes ≡ []) }
-    ensures left { IsLeftAs state.now window.now going.now.moment (O.seen output.old) (O.seen output.new) result }
-    ensures output_fault { result ≡ status.OutputFault → Rose (O.faults output.old) (O.faults output.new) }
-    ensures object { O.same output.old output.new }
-    ensures later { O.faults output.old ≤ O.faults output.new }
+    requires stream { length window.now.stream ≤ 128 }
+    ensures replayed { HasReplayed state.now window.now going.now.pace going.now.moment (files (J.seen journal.old) (J.crash journal.old) (J.faults journal.old) (O.seen output.old) (O.crash output.old) (O.faults output.old)) (files (J.seen journal.new) (J.crash journal.new) (J.faults journal.new) (O.seen output.new) (O.crash output.new) (O.faults output.new)) result }
+    ensures survives { Survives state.now window.now (files (J.seen journal.old) (J.crash journal.old) (J.faults journal.old) (O.seen output.old) (O.crash output.old) (O.faults output.old)) (files (J.seen journal.new) (J.crash journal.new) (J.faults journal.new) (O.seen output.new) (O.crash output.new) (O.faults output.new)) }
+    ensures answers { IsOpenStatus result }
+    ensures journal_object { J.same journal.old journal.new }
+    ensures output_object { O.same output.old output.new }
+    ensures journal_later { J.faults journal.old ≤ J.faults journal.new }
+    ensures output_later { O.faults output.old ≤ O.faults output.new }
 {
-    let (text, status) = match told(alloc, state, window, going) {
-        Ok(said) => said,
-        Err(status) => return status,
-    };
-    let Ok(()) = write_whole(&text, output) else {
-        return Status::OutputFault;
-    };
+    let (status, _journal) = over_output(alloc, state, &mut *journal, output, window, going);
     status
 }
 
-/// Writes a text on an empty output.
-fn write_whole<O: Disk>(text: &Text, output: &mut O) -> Result<(), Status>
-    requires { IfSome (O.seen output.old) (λ bytes. bytes ≡ []) }
-    ensures written { OnOk result (OnTold (O.seen output.old) (O.seen output.new) (λ bytes. bytes ≡ text.now)) }
-    ensures output_fault { OnErr result (Rose (O.faults output.old) (O.faults output.new)) }
-    ensures object { O.same output.old output.new }
-    ensures later { O.faults output.old ≤ O.faults output.new }
+/// The same over a journal that is given back: one disk is lent at a time, so that the caller knows
+/// each as it comes back.
+fn over_output<J: Disk, O: Disk>(
+    alloc: Global,
+    state: &ServerState,
+    journal: J,
+    output: &mut O,
+    window: &Window,
+    going: &Going,
+) -> (Status, J)
+    requires turns { 1 ≤ going.now.pace.turns }
+    requires records { (1 ≤ going.now.pace.limits.records) × (going.now.pace.limits.records ≤ 8192) }
+    requires order { window.now.start ≤ window.now.end }
+    requires stream { length window.now.stream ≤ 128 }
+    ensures replayed { HasReplayed state.now window.now going.now.pace going.now.moment (files (J.seen journal) (J.crash journal) (J.faults journal) (O.seen output.old) (O.crash output.old) (O.faults output.old)) (files (J.seen result.1) (J.crash result.1) (J.faults result.1) (O.seen output.new) (O.crash output.new) (O.faults output.new)) result.0 }
+    ensures survives { Survives state.now window.now (files (J.seen journal) (J.crash journal) (J.faults journal) (O.seen output.old) (O.crash output.old) (O.faults output.old)) (files (J.seen result.1) (J.crash result.1) (J.faults result.1) (O.seen output.new) (O.crash output.new) (O.faults output.new)) }
+    ensures answers { IsOpenStatus result.0 }
+    ensures journal_object { J.same journal result.1 }
+    ensures output_object { O.same output.old output.new }
+    ensures journal_later { J.faults journal ≤ J.faults result.1 }
+    ensures output_later { O.faults output.old ≤ O.faults output.new }
 {
-    let Ok(()) = output.write_at(0, text.as_str().as_bytes()) else {
-        return Err(Status::OutputFault);
+    let (status, journal, _output) = over_files(alloc, state, journal, &mut *output, window, going);
+    (status, journal)
+}
+
+/// The same over files that are given back.
+fn over_files<J: Disk, O: Disk>(
+    alloc: Global,
+    state: &ServerState,
+    journal: J,
+    output: O,
+    window: &Window,
+    going: &Going,
+) -> (Status, J, O)
+    requires turns { 1 ≤ going.now.pace.turns }
+    requires records { (1 ≤ going.now.pace.limits.records) × (going.now.pace.limits.records ≤ 8192) }
+    requires order { window.now.start ≤ window.now.end }
+    requires stream { length window.now.stream ≤ 128 }
+    ensures replayed { HasReplayed state.now window.now going.now.pace going.now.moment (files (J.seen journal) (J.crash journal) (J.faults journal) (O.seen output) (O.crash output) (O.faults output)) (files (J.seen result.1) (J.crash result.1) (J.faults result.1) (O.seen result.2) (O.crash result.2) (O.faults result.2)) result.0 }
+    ensures survives { Survives state.now window.now (files (J.seen journal) (J.crash journal) (J.faults journal) (O.seen output) (O.crash output) (O.faults output)) (files (J.seen result.1) (J.crash result.1) (J.faults result.1) (O.seen result.2) (O.crash result.2) (O.faults result.2)) }
+    ensures answers { IsOpenStatus result.0 }
+    ensures journal_object { J.same journal result.1 }
+    ensures output_object { O.same output result.2 }
+    ensures journal_later { J.faults journal ≤ J.faults result.1 }
+    ensures output_later { O.faults output ≤ O.faults result.2 }
+{
+    payloads_differ();
+    journals_stay_consistent();
+    let mut book = match Book::open(alloc, journal, output, window) {
+        Ok(book) => book,
+        Err((fault, journal, output)) => return (not_opened(fault), journal, output),
     };
-    let Ok(()) = output.sync() else {
-        return Err(Status::OutputFault);
-    };
-    Ok(())
+    let status = follow_window(alloc, state, &mut book, window, going);
+    book.settled();
+    let (journal, output) = book.close();
+    (status, journal, output)
+}
+
+/// The status that says why a book was not opened.
+fn not_opened(fault: OpenFault) -> Status
+    ensures { IsNotOpened fault result }
+{
+    match fault {
+        OpenFault::JournalFault => Status::JournalFault,
+        OpenFault::BadJournal(place) => Status::BadJournal(place),
+        OpenFault::OtherJournal(window) => Status::OtherJournal(window),
+        OpenFault::OutputNotEmpty(length) => Status::OutputNotEmpty(length),
+        OpenFault::OutputFault => Status::OutputFault,
+        OpenFault::Memory => Status::Memory,
+    }
 }

@@ -12,6 +12,8 @@ mod making;
 #[cfg(test)]
 mod parts;
 #[cfg(test)]
+mod redoing;
+#[cfg(test)]
 mod rows;
 #[cfg(test)]
 mod types;

@@ -20,12 +20,13 @@ usage:
 
 replay reads the stream as a follower does: it writes a line for each change with
 START <= stamp <= END to the output, those of each row in commit order, watermark lines, and last
-that of END. check judges such an output. show prints what the server answers to a query at a
-moment. gen makes a realistic script of N commits.
+that of END. It keeps what it has read in the journal: stopped by a kill, a full disk or a pause,
+it goes on with the same words. check judges such an output. show prints what the server answers to
+a query at a moment. gen makes a realistic script of N commits.
   SCRIPT   a file to read, at most 67,108,864 bytes: a JSON line for each statement,
            commit or reshape of partitions (docs/FORMATS.md has the form)
-  JOURNAL  a file, made where it is absent; it stays as it is
-  OUTPUT   a file; replay makes it where it is absent, and it must be empty
+  JOURNAL  a file, made where it is absent; it belongs to the OUTPUT that it was begun with
+  OUTPUT   a file; replay makes it where it is absent, and it must be empty where JOURNAL has no entry
   STREAM   the name of a change stream of the script
   START    a stamp such as 2024-05-01T00:00:00Z, with up to six digits of a second's fraction
   END      a stamp that is not below START
@@ -36,22 +37,32 @@ The last line on standard output has the status and its name:
    0 Ended           all is done: of replay and check, the output is complete; of show, each
                      line of the answer stands above
   10 Paused          replay: as many READs as it may make caught up with the present moment, which is
-                     before END; the output is right so far
+                     before END; the output is right so far, and a later --moment goes on
   11 Verdict V       check: the output is not complete, and V says what it is
   20 RetentionPassed T  START is before T, the earliest moment that the stream keeps at the present
                      moment: in replay --moment, in show MOMENT
   21 Refused KIND    the script has no such stream, or it was created after START, or a READ starts
                      above the present moment; in show, the query is refused, and KIND says why
-  41 OutputFault     a call on the output failed
+  31 Breach KIND A B  replay: what the stream tells does not go together with the journal, which was
+                     begun with another SCRIPT; the output says what the journal does
+  40 JournalFault    replay: a call on the journal failed; the same words go on
+  41 OutputFault     a call on the output failed; of replay, the same words go on
   42 SourceFault     a read of the script failed
   43 ConsoleFault    the write to standard output failed (no line)
   50 BadWords N      word N, counted from 0 behind the program's name, is missing, wrong or one too many
   51 BadScript N C   line N of the script, counted from 1, is the first bad one, and C says why;
                      0 TooLong: the script has more bytes than it may
-  55 OutputNotEmpty N  replay: the output has N bytes already; it stays as it is
+  52 OtherJournal STREAM START END  replay: the journal was begun with these words; journal and
+                     output stay as they are
+  53 BadJournal N    replay: the journal is damaged from byte N on, counted from 0, or is no journal;
+                     journal and output stay as they are
+  54 Full N          replay: the journal would have N bytes, more than 268,435,456; the output is right
+                     so far
+  55 OutputNotEmpty N  replay: the journal has no entry and the output N bytes; it stays as it is
   56 BadOutput N     check: line N of the output is neither a change nor a watermark
   60 Memory          memory was wanting
-  70                 a file cannot be opened (no line)
+  70                 a file cannot be opened; or, of replay, JOURNAL and OUTPUT are one file, or
+                     another run holds one of them (no line)
 ";
 
 const REPLAY: &str = "usage: spanstream replay SCRIPT JOURNAL OUTPUT STREAM START END
@@ -60,20 +71,25 @@ const REPLAY: &str = "usage: spanstream replay SCRIPT JOURNAL OUTPUT STREAM STAR
 Reads the script, follows the change stream from START to END, and writes to the output a line
 for each change, those of each row in commit order, and watermark lines: up to the stamp of one,
 all changes stand before it. The last one is that of END.
-  SCRIPT   a file to read, a JSON line for each statement, commit or reshape
-  JOURNAL  a file, made where it is absent; it stays as it is
-  OUTPUT   a file, made where it is absent; it must be empty
+What it has read it keeps in the journal. Where a run was stopped, by a kill, a full disk or a pause,
+the same words go on; the output is then made to say what the journal does, whatever stood there.
+  SCRIPT   a file to read, a JSON line for each statement, commit or reshape; to go on it has to be
+           the one that JOURNAL was begun with, which is not checked
+  JOURNAL  a file, made where it is absent; one that was begun with another STREAM, START or END is
+           refused with 52, and a file that is no journal with 53
+  OUTPUT   a file, made where it is absent; it belongs to JOURNAL, and must be empty where that has no
+           entry. One run at a time may have the two, and they may not be one file
   STREAM   the name of a change stream of the script
   START    a stamp, not before the stream's creation and not before T less its retention_period,
            nor after T
   END      a stamp that is not below START
-Options, in any order, each at most once:
+Options, in any order, each at most once; to go on they may be others:
   --order N   which READ is made of those that may be made equally well: the one at place N of their
               tokens' order, modulo their number; 0 to 9,999,999,999, by default 0
   --turns N   stop with 10 Paused after N READs that caught up with T; 1 to 1,000,000, by default 100
   --batch N   how many records one batch takes; 1 to 8,192, by default 1,024
   --moment T  a stamp: the present moment for the server; by default END
-It ends with 0, 10, 20, 21, 41, 42, 43, 50, 51, 55, 60 or 70.
+It ends with 0, 10, 20, 21, 31, 40, 41, 42, 43, 50, 51, 52, 53, 54, 55, 60 or 70.
 
 example: spanstream replay examples/one-insert.script /tmp/journal /tmp/output S 2024-05-01T00:00:01Z 2024-05-01T00:00:01Z
 ";

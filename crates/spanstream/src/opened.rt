@@ -1,8 +1,10 @@
 //! The top call over the files that the words name.
 
 use crate::CANNOT_OPEN;
+use crate::begun::refusal;
+use crate::held::hold;
 use crate::progress::{Progress, Shown};
-use crate::told::{Paths, say};
+use crate::told::{Paths, say, tell};
 use cs_ddl::parse_query;
 use cs_device::{Disk, FileDisk, FileSink, FileSource, MemDisk, MemSource, Source};
 use cs_tool::{Command, Status, WordsFault, expected_at, read_words, run};
@@ -59,12 +61,42 @@ fn replay(rt: &HostRuntime, words: &[String], script: &str, journal: &str, outpu
     let Ok(output_file) = open_disk(rt, output) else {
         return cannot_open(rt, output);
     };
+    on_files(rt, words, source, journal_file, output_file, &paths)
+}
+
+/// Holds the two files to the end of the run, and follows where the journal is one of ours.
+fn on_files(
+    rt: &HostRuntime,
+    words: &[String],
+    source: File,
+    journal: File,
+    output: File,
+    paths: &Paths<'_>,
+) -> u8 {
+    if let Err(cause) = hold(&journal, &output) {
+        return cannot_hold(rt, cause);
+    }
+    let mut journal = journal;
+    if let Some(status) = refusal(rt.alloc(), &mut journal) {
+        return tell(rt, &status, paths);
+    }
+    on_held(rt, words, source, journal, output, paths)
+}
+
+fn on_held(
+    rt: &HostRuntime,
+    words: &[String],
+    source: File,
+    journal: File,
+    output: File,
+    paths: &Paths<'_>,
+) -> u8 {
     let mut source = shown(rt, source);
-    let mut journal_disk = FileDisk::new(journal_file);
-    let mut output_disk = FileDisk::new(output_file);
-    let status = on_objects(rt, words, &mut source, &mut journal_disk, &mut output_disk);
+    let mut journal = FileDisk::new(journal);
+    let mut output = FileDisk::new(output);
+    let status = on_objects(rt, words, &mut source, &mut journal, &mut output);
     source.end();
-    say(rt, &status, &paths)
+    say(rt, &status, paths)
 }
 
 fn check(rt: &HostRuntime, words: &[String], script: &str, output: &str) -> u8 {
@@ -189,5 +221,10 @@ fn query_hint(rt: &HostRuntime, query: &str) {
 
 fn cannot_open(rt: &HostRuntime, word: &str) -> u8 {
     let _ = eprintln!(rt; "cannot open {word}");
+    CANNOT_OPEN
+}
+
+fn cannot_hold(rt: &HostRuntime, cause: &str) -> u8 {
+    let _ = eprintln!(rt; "spanstream: {cause}");
     CANNOT_OPEN
 }

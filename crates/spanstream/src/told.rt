@@ -3,7 +3,8 @@
 use crate::causes;
 use cs_audit::Verdict;
 use cs_tool::Status;
-use std::fs;
+use cs_types::Memory;
+use std::{fs, io};
 
 /// How many bytes of a line are shown.
 const SHOWN_BYTES: usize = 200;
@@ -13,6 +14,23 @@ const SHOWN_BYTES: usize = 200;
 pub struct Paths<'a> {
     pub script: &'a str,
     pub output: &'a str,
+}
+
+/// Says a status that is found before the top call is made as that says its own: by its line on
+/// standard output, and then on standard error.
+pub fn tell(rt: &HostRuntime, status: &Status, paths: &Paths<'_>) -> u8 {
+    match status.line(rt.alloc()) {
+        Ok(line) => tell_by(rt, line.as_str(), status, paths),
+        Err(Memory) => tell_by(rt, "60 Memory\n", &Status::Memory, paths),
+    }
+}
+
+fn tell_by(rt: &HostRuntime, line: &str, status: &Status, paths: &Paths<'_>) -> u8 {
+    let told: io::Result<()> = print!(rt; "{line}");
+    match told {
+        Ok(()) => say(rt, status, paths),
+        Err(_) => say(rt, &Status::ConsoleFault, paths),
+    }
 }
 
 /// Says what happened and what to do, and for a line that is at fault its text.

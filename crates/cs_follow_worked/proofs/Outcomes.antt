@@ -1,6 +1,0 @@
--- What an answer gives, where it gives something.
-use Rattle.std.specs.Prelude.{Result, Ok, Err, IfOk}
-
-pub if_ok : {A E : Type 0} {P Q : A → Type 0} (r : Result A E) → ((a : A) → P a → Q a) → IfOk r P → IfOk r Q
-if_ok (Ok a) f h = f a h
-if_ok (Err e) f h = h

@@ -1,9 +1,0 @@
-use Rattle.std.proofs.Common.{◌≡◌, length}
-use Rattle.cs_tail.specs.Due.{first_unfinished}
-use Rattle.cs_tail.proofs.due.first_unfinished.Given as goal
-
-abbrev pub invariant-loop-rest : goal.invariant-loop-rest
-invariant-loop-rest l = first_unfinished l.rest ≡ first_unfinished l.fn.rows
-
-abbrev pub decreases-loop-rest : goal.decreases-loop-rest
-decreases-loop-rest l = length l.rest

@@ -1,7 +1,0 @@
-use Rattle.cs_schedule.specs.Spelling.{IsChild}
-use Rattle.cs_tail.proofs.Upto.{UpTo}
-use Rattle.cs_tail.proofs.format.fits_children.Given as goal
-
--- the ones so far can be written
-abbrev pub invariant-loop-child : goal.invariant-loop-child
-invariant-loop-child l = UpTo IsChild l.child-index l.children

@@ -1,7 +1,0 @@
-use Rattle.cs_schedule.specs.Spelling.{IsToken}
-use Rattle.cs_tail.proofs.Upto.{UpTo}
-use Rattle.cs_tail.proofs.format.fits_tokens.Given as goal
-
--- the ones so far can be written
-abbrev pub invariant-loop-token : goal.invariant-loop-token
-invariant-loop-token l = UpTo IsToken l.token-index l.tokens
