@@ -1,0 +1,2 @@
+pub mod PieceRead
+pub mod Queues

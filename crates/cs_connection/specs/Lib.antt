@@ -1,0 +1,4 @@
+pub mod Conn
+pub mod Given
+pub mod Memory
+pub mod Accepting
