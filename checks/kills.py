@@ -93,6 +93,15 @@ class Folder:
             if os.path.exists(self.path(name)):
                 os.remove(self.path(name))
 
+    def put_files(self, files):
+        """Makes the two files these; one that is None is absent."""
+        for name, content in (("journal", files.journal), ("output", files.output)):
+            if content is not None:
+                with open(self.path(name), "wb") as file:
+                    file.write(content)
+            elif os.path.exists(self.path(name)):
+                os.remove(self.path(name))
+
     def words(self, words):
         return [self.program, "replay", "script", "journal", "output", *words]
 
@@ -296,45 +305,70 @@ def mounted(at, size):
     return subprocess.run(["mount", "-t", "tmpfs", "-o", f"size={size}", "none", at], stdout=subprocess.PIPE, stderr=subprocess.PIPE).returncode == 0
 
 
+PAGE = 4096
+
+
+def pages_of(size):
+    return -(-size // PAGE)
+
+
+def page_stop_of(whole, free):
+    """The status on a disk with so many pages free: an entry takes those of the journal first, and then those of its lines."""
+    told = 0
+    for gate, text in zip(whole.gates[1:], whole.texts[1:]):
+        size = pages_of(gate + 1)
+        if size + pages_of(told) > free:
+            return 40
+        if size + pages_of(text) > free:
+            return 41
+        told = text
+    return 0
+
+
 def check_small_disk(note, program, seed):
     """A disk in memory of some pages, of which a file takes all but a few; where this machine mounts one."""
     at = tempfile.mkdtemp(prefix="spanstream-disk-")
-    pages = 256
-    if os.geteuid() != 0 or shutil.which("mount") is None or not mounted(at, pages * 4096):
+    if os.geteuid() != 0 or shutil.which("mount") is None or not mounted(at, 256 * PAGE):
         os.rmdir(at)
-        print("kills: no small disk can be mounted here, and none is filled", flush=True)
+        print("kills: no small disk can be mounted here, none was filled, and no run was stopped by one", flush=True)
         return
     try:
         script, words = script_of(200), (*WINDOW, "--batch", "1")
         folder = Folder(program, script, at)
         folder.run(words)
-        whole, statuses, rng = Whole(words, folder.files()), set(), random.Random(seed)
-        pages_of = [-(-(len(it)) // 4096) for it in (whole.files.journal, whole.files.output)]
-        for number in range(8):
+        whole, rng = Whole(words, folder.files()), random.Random(seed)
+        stops = {it: page_stop_of(whole, it) for it in range(1, sum(map(pages_of, (len(whole.files.journal), len(whole.files.output)))))}
+        # some of each stop
+        free = []
+        for status in NO_ROOM:
+            of_status = [it for it in stops if stops[it] == status]
+            free += rng.sample(of_status, min(4, len(of_status)))
+        statuses = set()
+        for it in free:
             folder.forget()
-            saw = small_disk_fault(folder, whole, rng.randrange(1, sum(pages_of)), statuses)
-            note(saw is None, f"no room, a small disk, seed {seed}, round {number}", saw)
-        print(f"kills: a small disk stopped runs with {sorted(statuses)}", flush=True)
+            saw = small_disk_fault(folder, whole, it, stops[it])
+            note(saw is None, f"no room, a small disk with {it} free pages", saw)
+            statuses.add(stops[it])
+        note(statuses == set(NO_ROOM), "no room, a small disk: what stops the runs", (statuses, stops))
     finally:
         subprocess.run(["umount", at])
         os.rmdir(at)
 
 
-def small_disk_fault(folder, whole, free, statuses):
-    """A run on a disk with so many pages free, and one behind it with all of them."""
+def small_disk_fault(folder, whole, free, want):
+    """A run on a disk with so many pages free, which ends with this status, and one behind it with all of them."""
     with open(folder.path("filler"), "wb", buffering=0) as file:
         try:
-            while file.write(b"x" * 4096) == 4096:
+            while file.write(b"x" * PAGE) == PAGE:
                 pass
         except OSError:
             pass
-        file.truncate(max(0, os.fstat(file.fileno()).st_size // 4096 - free) * 4096)
+        file.truncate(max(0, os.fstat(file.fileno()).st_size // PAGE - free) * PAGE)
     answer = folder.run(whole.words)
-    statuses.add(answer.returncode)
     wrong, _ = whole.stopped(folder.files(), 0)
     os.remove(folder.path("filler"))
-    if wrong is not None or answer.stdout != NO_ROOM.get(answer.returncode) or answer.stderr == b"":
-        return f"with {free} pages: {wrong}, {answer}"
+    if wrong is not None or (answer.returncode, answer.stdout) != (want, NO_ROOM[want]) or answer.stderr == b"":
+        return f"with {free} pages: {wrong}, {answer}, and should be {want}"
     answer, files = folder.run(whole.words), folder.files()
     same = answer.stdout == b"0 Ended\n" and (files.journal, files.output) == (whole.files.journal, whole.files.output)
     return None if same else f"behind {free} pages, with room: {answer}"

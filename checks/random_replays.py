@@ -156,6 +156,7 @@ def check_round(note, asked, seed, counts):
     if window is not None:
         saw = asked.differ(script, window)
         note(saw is None, f"seed {seed}, replays of {window} in several orders", f"{script!r}: {saw}")
+        counts["orders"] = counts.get("orders", 0) + (len(model.changes(script, *window)) > 1)
 
 
 def check(note, room, is_explained, rounds, seed):
@@ -164,8 +165,10 @@ def check(note, room, is_explained, rounds, seed):
     asked, counts = Asked(room, is_explained), {}
     for number in range(rounds):
         check_round(note, asked, f"{seed}.{number}", counts)
+    orders = counts.pop("orders", 0)
     told = ", ".join(f"{count} of status {status}" for status, count in sorted(counts.items()))
-    print(f"random replays: {told}", flush=True)
+    print(f"random replays: {told}, {orders} windows with many changes in several orders", flush=True)
     # many ended and many paused, or the replays are no test
     note(rounds < 20 or (counts.get(0, 0) >= rounds and counts.get(10, 0) >= rounds // 2), "random replays end and pause", told)
+    note(rounds < 20 or orders >= rounds // 2, "random replays in several orders", orders)
     room.clear()

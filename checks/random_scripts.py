@@ -118,12 +118,17 @@ def check_round(note, asked, seed):
     for window, output in made.checks:
         saw = asked.check(script, window, output)
         note(saw is None, f"seed {seed}, check in {window}", f"{script!r} with {output!r}: {saw}")
-    return model.replay(script, *made.windows[0]).console
+    return [model.replay(made.script(), *it).status for it in made.windows]
 
 
 def check(note, room, is_explained, rounds, seed):
     seed = seed or str(int(time.time()))
     print(f"random scripts: {rounds} from the seed {seed}", flush=True)
-    asked = Asked(room, is_explained)
+    asked, counts = Asked(room, is_explained), {}
     for number in range(rounds):
-        check_round(note, asked, f"{seed}.{number}")
+        for status in check_round(note, asked, f"{seed}.{number}"):
+            counts[status] = counts.get(status, 0) + 1
+    told = ", ".join(f"{count} of status {status}" for status, count in sorted(counts.items()))
+    print(f"random scripts: replays, {told}", flush=True)
+    # many ended and many were refused, or the scripts are no test
+    note(rounds < 20 or (counts.get(0, 0) >= rounds // 4 and counts.get(51, 0) >= rounds // 4), "random scripts are replayed and refused", told)

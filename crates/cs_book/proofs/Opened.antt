@@ -23,7 +23,7 @@ use Rattle.cs_book.specs.Book.{IsSound, AreOf}
 use Rattle.cs_book.specs.Waiting.{AreFree, IsWithin}
 use Rattle.cs_book.specs.Entries.{HoldsEntries}
 use Rattle.cs_book.specs.Reading.{AreRead, IsTold, IsInOrder}
-use Rattle.cs_book.specs.Opening.{IsFrom, HoldsSameOrFirst, HoldsOldOrFirst, IsOutputFault, IsBeginFault, IsFirstFault, IsReopenFault, IsOpenFault, IsRefusal, IfNothingIsWritten}
+use Rattle.cs_book.specs.Opening.{IsFrom, HoldsSameOrFirst, HoldsOldOrFirst, IsOutputFault, IsBeginFault, IsFirstFault, IsReopenFault, IsOpenFault, IsRefusal, IfNothingIsWritten, IfGateIsBroken}
 use Rattle.cs_book.specs.declared.fault.OpenFault.{OpenFault}
 use Rattle.cs_book.specs.declared.fault.OpenFault.TheVariants as faults
 use Rattle.cs_book.proofs.Committed.{holds_same, holds_more}
@@ -198,6 +198,22 @@ open_fault w seen stored text j k o faults.Memory jn on read same is = tt
 pub bad_refused : (seen : Option (List ℕ)) (gate : ℕ) (Q : List ℕ → Type 0) → IfSome seen (λ bytes. stored_of bytes ≡ Err gate) → IfSome seen (λ bytes. (stored_of bytes ≡ Err gate) ⊎ Q bytes)
 bad_refused None gate Q bad = tt
 bad_refused (Some bytes) gate Q bad = inl bad
+
+-- ---- an open gate without a whole entry
+
+-- where the payloads were read there is none
+pub read_not_broken : (fault : OpenFault) (seen : Option (List ℕ)) (stored : List Stored) (stays : Type 0) → IsRead seen stored → IfGateIsBroken fault seen stays
+read_not_broken faults.JournalFault seen stored stays read = tt
+read_not_broken (faults.BadJournal gate) None stored stays read = tt
+read_not_broken (faults.BadJournal gate) (Some bytes) stored stays read = λ broken. let no : Ok stored ≡ Err gate = sym read ∙ broken in absurd cc
+read_not_broken (faults.OtherJournal other) seen stored stays read = tt
+read_not_broken (faults.OutputNotEmpty count) seen stored stays read = tt
+read_not_broken faults.OutputFault seen stored stays read = tt
+read_not_broken faults.Memory seen stored stays read = tt
+
+pub broken_stays : (seen : Option (List ℕ)) (gate : ℕ) (stays : Type 0) → stays → IfSome seen (λ bytes. stored_of bytes ≡ Err gate → stays)
+broken_stays None gate stays is = tt
+broken_stays (Some bytes) gate stays is = λ _. is
 
 -- ---- the length of the first entry
 

@@ -86,6 +86,11 @@ IfNothingIsWritten (faults.OtherJournal other) stays = stays
 IfNothingIsWritten (faults.OutputNotEmpty count) stays = stays
 IfNothingIsWritten _ stays = ⊤
 
+-- the journal is refused because the open gate at this place has no whole entry behind it
+abbrev pub IfGateIsBroken : OpenFault → Option (List ℕ) → Type 0 → Type 0
+IfGateIsBroken (faults.BadJournal gate) seen stays = IfSome seen (λ bytes. stored_of bytes ≡ Err gate → stays)
+IfGateIsBroken _ seen stays = ⊤
+
 -- ---- what crashes keep
 
 held_such : (P : List Entry → Type 0) (old image : List ℕ) → payloads_of image ≡ payloads_of old → HoldsSuch P old → HoldsSuch P image

@@ -1,5 +1,5 @@
 //! An entry is written, and its rows are taken in.
-ghost use Rattle.std.specs.Prelude.{◌≡◌, ◌≤◌, ◌⊎◌, List, Some, None, true, false, IfSome, OnOk, OnErr, IsErrOf};
+ghost use Rattle.std.specs.Prelude.{◌≡◌, ◌≤◌, ◌⊎◌, [], List, Some, None, true, false, IfSome, OnOk, OnErr, IsErrOf};
 ghost use Rattle.std.specs.Io.KnownBytes.{Keeps};
 ghost use Rattle.cs_device.specs.Causes.{Rose};
 ghost use Rattle.cs_device.specs.Crash.{CrashesLeave, LeavesOnly};
@@ -42,6 +42,7 @@ impl<J: Disk, O: Disk> Book<J, O> {
         ensures running { OnOk result (IsRunning self.new) }
         ensures rows { OnOk result (self.new.board.rows ≡ rows_back token.now caught_up (applied self.old.board.window.start self.old.board.rows plan.entry)) }
         ensures gate { OnOk result (self.new.journal.gate ≡ gate_after self.old.journal.gate plan.entry) }
+        ensures no_text { addition.text ≡ [] → self.new.output ≡ self.old.output }
         ensures any_moment { IfSome (J.seen self.old.journal.disk) (λ bytes. (es : List Entry) → HoldsEntries bytes es → CrashesLeave (HoldsBeforeOrAfter es plan.entry) (J.crash self.old.journal.disk) (J.crash self.new.journal.disk)) }
         ensures refused { OnErr result (self.new.board.rows ≡ rows_back token.now caught_up self.old.board.rows) }
         ensures window { self.new.board.window ≡ self.old.board.window }
@@ -73,8 +74,9 @@ impl<J: Disk, O: Disk> Book<J, O> {
     }
 
     /// Puts the entry of a plan into the journal, appends what it adds to the output, folds it into
-    /// the rows and gives the lease back; nothing is written where the plan has no entry. It takes no
-    /// memory. The plan is that of `reserve` for this lease, and the book as it was then.
+    /// the rows and gives the lease back; nothing is written where the plan has no entry, and the
+    /// output is not called where the entry adds no lines. It takes no memory. The plan is that of
+    /// `reserve` for this lease, and the book as it was then.
     ///
     /// A crash at any moment of the call leaves a journal with the entries from before it, or with
     /// these and the one. `JournalFault`, `OutputFault`: a call of that disk failed, now or earlier;
@@ -90,6 +92,8 @@ impl<J: Disk, O: Disk> Book<J, O> {
         ensures rows { OnOk result (self.new.board.rows ≡ rows_back lease.args.token plan.caught_up (applied self.old.board.window.start self.old.board.rows plan.plan.entry)) }
         ensures gate { OnOk result (self.new.journal.gate ≡ gate_after self.old.journal.gate plan.plan.entry) }
         ensures no_entry { plan.plan.entry ≡ None → (self.new.journal ≡ self.old.journal) × (self.new.output ≡ self.old.output) }
+        // An entry that adds no text costs the output no call.
+        ensures no_text { IfSome plan.addition (λ a. a.text ≡ [] → self.new.output ≡ self.old.output) }
         ensures any_moment { IsRunning self.old → IfSome (J.seen self.old.journal.disk) (λ bytes. (es : List Entry) → HoldsEntries bytes es → CrashesLeave (HoldsBeforeOrAfter es plan.plan.entry) (J.crash self.old.journal.disk) (J.crash self.new.journal.disk)) }
         ensures refused { OnErr result (self.new.board.rows ≡ rows_back lease.args.token plan.caught_up self.old.board.rows) }
         ensures window { self.new.board.window ≡ self.old.board.window }

@@ -2,7 +2,7 @@
 ghost use Rattle.std.specs.Prelude.{◌≡◌, ◌≤◌, ◌<◌, ◌↔◌, [], ◌∷◌, List, Some, Ok, false, length, IfOk, IfErr, IfSome, IsTrue, MatchResult};
 ghost use Rattle.std.specs.Io.KnownBytes.{Keeps};
 ghost use Rattle.cs_device.specs.Crash.{CrashesLeave, LeavesOnly};
-ghost use Rattle.cs_journal.specs.Crashes.{HasSamePayloads, KeepsAnOldImage};
+ghost use Rattle.cs_journal.specs.Crashes.{HasSamePayloads, KeepsAnOldImage, IsUntouched};
 ghost use Rattle.cs_journal.specs.Rows.{limit, stored_of, place_behind};
 ghost use Rattle.cs_journal.specs.State.{WhereTold};
 ghost use Rattle.cs_schedule.specs.declared.entry.Entry.{Entry as TheEntry};
@@ -12,7 +12,7 @@ ghost use Rattle.cs_book.specs.Waiting.{AreFree};
 ghost use Rattle.cs_book.specs.Book.{AreEntriesOf, IsRunning, StillTells};
 ghost use Rattle.cs_book.specs.Entries.{HoldsEntries};
 ghost use Rattle.cs_book.specs.Reading.{IsTold};
-ghost use Rattle.cs_book.specs.Opening.{IsOutputFault, IsReopenFault, IsBeginFault, IsFirstFault, IsOpenFault, IsRefusal, IsFrom, HoldsSameOrFirst, HoldsOldOrFirst, IfNothingIsWritten};
+ghost use Rattle.cs_book.specs.Opening.{IsOutputFault, IsReopenFault, IsBeginFault, IsFirstFault, IsOpenFault, IsRefusal, IsFrom, HoldsSameOrFirst, HoldsOldOrFirst, IfNothingIsWritten, IfGateIsBroken};
 
 use crate::book::Book;
 use crate::fault::OpenFault;
@@ -144,6 +144,7 @@ impl<J: Disk, O: Disk> Book<J, O> {
         ensures back { IfErr result (λ e. e.1 ≡ journal.disk) }
         ensures refused { IfErr result (λ e. IsReopenFault telling.board.window window.now (O.faults output) e.0 (O.faults e.2)) }
         ensures stays { IfErr result (λ e. IfNothingIsWritten e.0 (Keeps (O.seen output) (O.seen e.2))) }
+        ensures output_untouched { IfErr result (λ e. IfNothingIsWritten e.0 (IsUntouched (O.seen output) (O.seen e.2) (O.crash output) (O.crash e.2))) }
         ensures object { MatchResult result (λ b. O.same output b.output) (λ e. O.same output e.2) }
         ensures later { MatchResult result (λ b. O.faults b.output ≡ O.faults output) (λ e. O.faults output ≤ O.faults e.2) }
     {
@@ -219,6 +220,7 @@ impl<J: Disk, O: Disk> Book<J, O> {
             (λ e. CrashesLeave (HoldsSameOrFirst window.now bytes) (J.crash journal.disk) (J.crash e.1))) }
         ensures refused { IfErr result (λ e. IsFirstFault (O.seen output) (J.faults journal.disk) (O.faults output) e.0 (J.faults e.1) (O.faults e.2)) }
         ensures stays { IfErr result (λ e. IfNothingIsWritten e.0 ((e.1 ≡ journal.disk) × Keeps (O.seen output) (O.seen e.2))) }
+        ensures output_untouched { IfErr result (λ e. IfNothingIsWritten e.0 (IsUntouched (O.seen output) (O.seen e.2) (O.crash output) (O.crash e.2))) }
         // Where the output has bytes nothing is begun, whatever is answered.
         ensures not_begun { IfSome (O.seen output) (λ text. 0 < length text → MatchResult result (λ _. ⊥) (λ e. (e.1 ≡ journal.disk) × Keeps (O.seen output) (O.seen e.2))) }
         ensures objects { MatchResult result (λ b. J.same journal.disk b.journal.disk × O.same output b.output) (λ e. J.same journal.disk e.1 × O.same output e.2) }
@@ -270,6 +272,7 @@ impl<J: Disk, O: Disk> Book<J, O> {
             (λ e. CrashesLeave (HoldsSameOrFirst window.now bytes) (J.crash journal.disk) (J.crash e.1))) }
         ensures refused { IfErr result (λ e. IsOpenFault window.now stored.now (O.seen output) (J.faults journal.disk) (O.faults output) e.0 (J.faults e.1) (O.faults e.2)) }
         ensures stays { IfErr result (λ e. IfNothingIsWritten e.0 ((e.1 ≡ journal.disk) × Keeps (O.seen output) (O.seen e.2))) }
+        ensures output_untouched { IfErr result (λ e. IfNothingIsWritten e.0 (IsUntouched (O.seen output) (O.seen e.2) (O.crash output) (O.crash e.2))) }
         ensures not_begun { IfSome (O.seen output) (λ text. stored.now ≡ [] → 0 < length text → MatchResult result (λ _. ⊥) (λ e. (e.1 ≡ journal.disk) × Keeps (O.seen output) (O.seen e.2))) }
         ensures objects { MatchResult result (λ b. J.same journal.disk b.journal.disk × O.same output b.output) (λ e. J.same journal.disk e.1 × O.same output e.2) }
         ensures later { MatchResult result (λ b. (J.faults b.journal.disk ≡ J.faults journal.disk) × (O.faults b.output ≡ O.faults output)) (λ e. (J.faults journal.disk ≤ J.faults e.1) × (O.faults output ≤ O.faults e.2)) }
@@ -320,6 +323,10 @@ impl<J: Disk, O: Disk> Book<J, O> {
         ensures refused { IfErr result (λ e. IsRefusal window.now (J.seen journal) (O.seen output) (J.faults journal) (O.faults output) e.0 (J.faults e.1) (O.faults e.2)) }
         // Both files stay as they are, but for what the journal's opening mends behind its entries.
         ensures stays { IfErr result (λ e. IfNothingIsWritten e.0 (WhereTold HasSamePayloads (J.seen journal) (J.seen e.1) × KeepsAnOldImage (J.seen journal) (J.crash journal) (J.crash e.1) × Keeps (O.seen output) (O.seen e.2))) }
+        // A journal whose open gate has no whole entry behind it stays as it is, to the byte.
+        ensures untouched { IfErr result (λ e. IfGateIsBroken e.0 (J.seen journal) (IsUntouched (J.seen journal) (J.seen e.1) (J.crash journal) (J.crash e.1))) }
+        // And with each refusal by which nothing is written, the output stays so too.
+        ensures output_untouched { IfErr result (λ e. IfNothingIsWritten e.0 (IsUntouched (O.seen output) (O.seen e.2) (O.crash output) (O.crash e.2))) }
         // Where the journal has no entry and the output has bytes, none is put and the output stays, whatever is answered.
         ensures not_begun { IfSome (J.seen journal) (λ bytes. IfSome (O.seen output) (λ text. stored_of bytes ≡ Ok [] → 0 < length text → MatchResult result (λ _. ⊥) (λ e. KeepsAnOldImage (J.seen journal) (J.crash journal) (J.crash e.1) × Keeps (O.seen output) (O.seen e.2)))) }
         ensures objects { MatchResult result (λ b. J.same journal b.journal.disk × O.same output b.output) (λ e. J.same journal e.1 × O.same output e.2) }

@@ -1,5 +1,5 @@
 //! What is written for an entry: its payload into the journal, and then its lines into the output.
-ghost use Rattle.std.specs.Prelude.{◌≡◌, ◌≤◌, ◌+◌, true, false, length, IfSome, IsErrOf, OnOk};
+ghost use Rattle.std.specs.Prelude.{◌≡◌, ◌≤◌, ◌+◌, [], true, false, length, IfSome, IsErrOf, OnOk};
 ghost use Rattle.std.specs.Io.KnownBytes.{Appends};
 ghost use Rattle.cs_device.specs.Causes.{Rose, HasCause};
 ghost use Rattle.cs_device.specs.Crash.{CrashesLeave};
@@ -12,17 +12,22 @@ use crate::fault::CommitFault;
 use cs_device::{Disk, Failed};
 use cs_journal::{Framed, Journal};
 
-/// Writes bytes behind the others.
+/// Writes bytes behind the others. Where there are none the disk is not called.
 fn append<O: Disk>(output: &mut O, bytes: &[u8]) -> Result<(), Failed>
     ensures bytes { OnOk result (Appends (O.seen output.old) (O.seen output.new) bytes.now) }
+    ensures nothing { bytes.now ≡ [] → output.new ≡ output.old }
     ensures object { O.same output.old output.new }
     ensures cause { HasCause (O.faults output.old) (O.faults output.new) result }
 {
+    if bytes.is_empty() {
+        return Ok(());
+    }
     let at = output.len()?;
     output.write_at(at, bytes)
 }
 
-/// Puts a payload into the journal, and then writes a text behind the output. It takes no memory.
+/// Puts a payload into the journal, and then writes a text behind the output, which is not called
+/// where the text is empty. It takes no memory.
 pub(crate) fn write<J: Disk, O: Disk>(
     journal: &mut Journal<J>,
     output: &mut O,
@@ -35,6 +40,7 @@ pub(crate) fn write<J: Disk, O: Disk>(
     ensures gate { OnOk result (journal.new.gate ≡ journal.old.gate + 5 + length framed.now) }
     ensures running { OnOk result (journal.new.failed ≡ false) }
     ensures appended { OnOk result (Appends (O.seen output.old) (O.seen output.new) text.now) }
+    ensures no_text { text.now ≡ [] → output.new ≡ output.old }
     // A crash at any moment of the call leaves the payloads from before it, or these with the new one.
     ensures any_moment { IfSome (J.seen journal.old.disk) (λ bytes. CrashesLeave (IsBeforeOrAfter bytes framed.now) (J.crash journal.old.disk) (J.crash journal.new.disk)) }
     ensures journal_fault { IsErrOf result faults.JournalFault → (journal.new.failed ≡ true) × (output.new ≡ output.old) × Rose (J.faults journal.old.disk) (J.faults journal.new.disk) }

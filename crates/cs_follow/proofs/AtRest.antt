@@ -169,10 +169,6 @@ pub back_same : (token : Option (List ℕ)) (caught_up : Bool) (rows : List Row)
 back_same None caught_up rows = refl
 back_same (Some t) caught_up rows = back_there_same caught_up (place_of rows t) rows
 
-pub fresh_twice : (rows : List Row) → map fresh (map fresh rows) ≡ map fresh rows
-fresh_twice [] = refl
-fresh_twice (r ∷ rows) = ap (λ l. fresh r ∷ l) (fresh_twice rows)
-
 pub fresh_ordered : (rows : List Row) → IsOrdered rows → IsOrdered (map fresh rows)
 fresh_ordered [] O = tt
 fresh_ordered (r ∷ rows) O = (λ y j. let u = from_map fresh y rows j in subst (λ (z : Row). slice_cmp nat_cmp r.token z.token ≡ Less) (sym u.2) (O.0 u.0 u.1), fresh_ordered rows O.1)
@@ -278,7 +274,7 @@ back_free (Some t) caught_up rows O only y i =
     (λ (h : (x : Row) × Contains rows x × (y ≡ given_back caught_up x)). ap (λ (z : Row). z.leased) h.2)
     (remade_from (given_back caught_up) t rows O y (subst (λ l. Contains l y) (remade_is (given_back caught_up) t rows) i))
 
-leased_from : (i : ℕ) (rows : List Row) (y : Row) → Contains (changed_at leased i rows) y → Contains rows y ⊎ ((r : Row) × (get_or rows i r ≡ r) × (y ≡ leased r))
+pub leased_from : (i : ℕ) (rows : List Row) (y : Row) → Contains (changed_at leased i rows) y → Contains rows y ⊎ ((r : Row) × (get_or rows i r ≡ r) × (y ≡ leased r))
 leased_from i [] y j = absurd (in_nil y j)
 leased_from ℕ.zero (r ∷ rows) y j =
     ⊎_elim (λ (e : y ≡ leased r). inr (r, refl, e)) (λ (k : Contains rows y). inl (in_tail r y rows k)) (in_cons (leased r) y rows j)
@@ -292,7 +288,7 @@ leased_from (suc i) (r ∷ rows) y j =
     (leased_from i rows y k))
     (in_cons r y (changed_at leased i rows) j)
 
-at_place : (rows : List Row) (i : ℕ) (d e : Row) → i < length rows → get_or rows i d ≡ get_or rows i e
+pub at_place : (rows : List Row) (i : ℕ) (d e : Row) → i < length rows → get_or rows i d ≡ get_or rows i e
 at_place [] i d e lt = absurd (omega (arith, lt))
 at_place (a ∷ rows) ℕ.zero d e lt = refl
 at_place (a ∷ rows) (suc i) d e lt = at_place rows i d e (omega (arith, lt))
@@ -306,7 +302,3 @@ leased_only rows place r free inside at y i reads =
     let same : h.0 ≡ r = sym h.1 ∙ at_place rows place h.0 r inside ∙ at in
     ap (λ (z : Row). Some z.token) (sym same ∙ refl) ∙ ap (λ (z : Row). Some z.token) (sym h.2))
     (leased_from place rows y i)
-
--- nobody reads
-pub free_only : (token : Option (List ℕ)) (rows : List Row) → AreFree rows → OnlyReads token rows
-free_only token rows free y i reads = absurd (true≢false (sym reads ∙ free y i))

@@ -200,9 +200,6 @@ module _ (f : Feed) (w : Window) (limits : Limits) (since : ℕ) (told told_now 
 
     -- a batch that is made of a due READ makes a plan
     module _ (well : AlwaysWellFormed) (ordered : IsOrdered b.rows) where
-      is_right : H.feed ≡ f
-      is_right = same
-
       known : (r : Row) → Contains b.rows r → (q : Part) × Contains f.parts q × (q.from ≤ w.end) × IsBefore w.start q.until × IsRowOf w.start q r
       known r i = right.known (fresh r) (inside r i)
 

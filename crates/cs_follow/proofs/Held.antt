@@ -19,10 +19,10 @@ use Rattle.cs_book.specs.Book.{BookState, IsRunning, AreEntriesOf, rows_back, op
 use Rattle.cs_book.specs.Claim.{IsNext, IsLeasedRow, is_leased, opening_after, HasLeaseOut}
 use Rattle.cs_follow.specs.Due.{at_rest}
 use Rattle.cs_book.specs.Entries.{HoldsEntries, HoldsBeforeOrAfter, with_entry}
-use Rattle.cs_book.specs.Lease.{row_lease, first_lease}
+use Rattle.cs_book.specs.Lease.{row_lease}
 use Rattle.cs_follow.specs.Turn.{IsAfoot, IsIdle, IsHeld, IsLeft, IsPlannedOf, HoldsOldOrPlanned, OnlyReads}
 use Rattle.cs_book.specs.Waiting.{AreFree, AreFinished, AreWithin, IsWithin, IsOrphan}
-use Rattle.cs_follow.proofs.AtRest.{fresh_applied, fresh_plans, fresh_ordered, fresh_free, fresh_ready, leased_same, back_same, leased_only, free_only, applied_only, back_free}
+use Rattle.cs_follow.proofs.AtRest.{fresh_applied, fresh_plans, fresh_ordered, fresh_free, fresh_ready, leased_same, back_same, leased_only, applied_only, back_free}
 
 -- ---- boards at rest
 
@@ -39,15 +39,6 @@ rest_afoot fresh_is es b B O W = record {
 }
 
 -- ---- a lease that was taken
-
--- of a book of which nothing was leased
-pub first_held : {J O : Type 0} (old new : BookState J O) (lease : Lease) (order : ℕ) → IsIdle old → IsNext old.board new.board old.is_opening order (claims.Initial lease) → new.is_opening ≡ true → HasLeaseOut new.board new.is_opening (claims.Initial lease) → IsHeld new lease
-first_held old new lease order I N opens out = record {
-  due = inl (ap (λ (b : Shown). map fresh b.rows) N.3 ∙ ap (map fresh) N.0, N.2 ∙ ap (λ (b : Shown). first_lease b.window) (sym N.3));
-  out = out;
-  only = free_only lease.args.token new.board.rows (subst (λ (b : Shown). AreFree b.rows) (sym N.3) I.free);
-  closed = λ some. absurd (some (ap (λ (l : Lease). l.args.token) N.2));
-}
 
 pub row_held : {J O : Type 0} (old new : BookState J O) (lease : Lease) (order : ℕ) → IsIdle old → IsNext old.board new.board old.is_opening order (claims.Row lease) → new.is_opening ≡ old.is_opening → HasLeaseOut new.board new.is_opening (claims.Row lease) → IsHeld new lease
 row_held old new lease order I N same out =

@@ -14,7 +14,7 @@ use Rattle.cs_book.specs.Waiting.{AreFree, AreWithin, IsWithin}
 use Rattle.cs_follow.proofs.PlannedCases.{Ends, Brings, Idles}
 use Rattle.cs_follow.proofs.RowLemmas.{puts_from, advanced_row, its, other, row_at}
 
-same_row : (rows : List Row) (a r : Row) → IsOrdered rows → Contains rows a → Contains rows r → a.token ≡ r.token → a ≡ r
+pub same_row : (rows : List Row) (a r : Row) → IsOrdered rows → Contains rows a → Contains rows r → a.token ≡ r.token → a ≡ r
 same_row rows a r O i j h = let same : Some a ≡ Some r = sym (row_at rows r.token a O i h) ∙ row_at rows r.token r O j refl in cc
 
 -- what a property of rows needs, to hold of those behind an entry of the row r

@@ -20,9 +20,6 @@ use Rattle.cs_follow.specs.Turn.{IsStopped, HasStopped}
 use Rattle.cs_follow.proofs.Complete.{caught_up_before, stops_rightly}
 
 module _ {J O : Type 0} (seen : J → Option (List ℕ)) (text : O → Option (List ℕ)) (limits : Limits) (since : ℕ) (before now : Option (Option Read)) (turns count count_now : ℕ) (rose rosej roseo : Type 0) (new : BookState J O) (es : List Entry) (w : Window) (window : new.board.window ≡ w) (f : Feed) (told told_now : Option Feed) (E : IsHonestFor w.stream told before) (H : IsHonestFor w.stream told_now now) (same : H.feed ≡ f) where
-  Stopped : Outcome → Type 0
-  Stopped o = HasStopped seen text limits since before now turns count count_now rose rosej roseo new es o
-
   -- it pauses only where the link's moment was before the window's end
   pub paused_before : (o : Outcome) → o ≡ Outcome.Paused → HasStopped seen text limits since before now turns count count_now rose rosej roseo new es o → since < w.end
   paused_before o is S =

@@ -1,5 +1,5 @@
 -- Tests on numbers, tokens, and lengths of lists.
-use Rattle.std.proofs.Common.{◌≡◌, ◌≢◌, ℕ, suc, ◌<◌, ◌≤◌, Bool, true, false, not, List, [], ◌∷◌, sym, refl, ap, ◌∙◌, subst, arith, true≢false, map, length, Contains, nat_lt, nat_le}
+use Rattle.std.proofs.Common.{◌≡◌, ◌≢◌, ℕ, suc, ◌<◌, ◌≤◌, true, false, List, [], ◌∷◌, sym, refl, ap, ◌∙◌, subst, arith, true≢false, map, length, Contains, nat_lt, nat_le}
 use Rattle.std.specs.Cmp.Lexicographic.{slice_cmp, nat_list_cmp_total}
 use Rattle.std.specs.declared.cmp.Ordering.{Ordering}
 use Rattle.std.specs.declared.cmp.Ordering.TheVariants.{Less, Equal, Greater}
@@ -21,14 +21,6 @@ le_false a b e = grind (arith, nat_tests)
 
 pub true_le : (a b : ℕ) → a ≤ b → nat_le a b ≡ true
 true_le a b e = grind (arith, nat_tests)
-
-pub not_false : (b : Bool) → not b ≡ true → b ≡ false
-not_false true h = absurd (true≢false (sym h))
-not_false false h = refl
-
-pub not_true : (b : Bool) → not b ≡ false → b ≡ true
-not_true true h = refl
-not_true false h = absurd (true≢false h)
 
 abbrev pub Below : List ℕ → List ℕ → Type 0
 Below a b = slice_cmp nat_cmp a b ≡ Less

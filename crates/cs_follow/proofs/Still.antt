@@ -60,7 +60,3 @@ pub behind_all : (t : Turn) {P : Type 0} → P → BehindTurn t P
 behind_all (turns.Stops o) p = unless_all o p
 behind_all turns.CaughtUp p = p
 behind_all turns.On p = p
-
--- of both disks
-pub both_same : {J O : Type 0} (seen : J → Option (List ℕ)) (text : O → Option (List ℕ)) (a b : J) (x y : O) → b ≡ a → y ≡ x → StillTells (seen a) (seen b) × StillTells (text x) (text y)
-both_same seen text a b x y e h = (still_same seen a b e, still_same text x y h)

@@ -186,6 +186,3 @@ module _ {J O : Type 0} (seen : J → Option (List ℕ)) (text : O → Option (L
 
   pub orphan_over : (row parent : List ℕ) → IsOrdered book.board.rows → IsOrphan book.board.rows row parent → IsTurnOver seen text crash limits since before before count count rose rosej roseo told book.board.window b book.journal book es (turns.Stops (Outcome.Breach (Breach.Orphan row parent)))
   orphan_over row parent ordered waits = here_over (turns.Stops (Outcome.Breach (Breach.Orphan row parent))) (I, E, (refl, λ n. (no_pause (Outcome.Breach (Breach.Orphan row parent)) refl, stopped_here n (Outcome.Breach (Breach.Orphan row parent)) ordered (inr (inr waits)))))
-
-  pub memory_over : IsOrdered book.board.rows → IsTurnOver seen text crash limits since before before count count rose rosej roseo told book.board.window b book.journal book es (turns.Stops Outcome.Memory)
-  memory_over ordered = here_over (turns.Stops Outcome.Memory) (I, E, (refl, λ n. (no_pause Outcome.Memory refl, stopped_here n Outcome.Memory ordered tt)))

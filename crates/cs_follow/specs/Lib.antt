@@ -5,6 +5,8 @@ pub mod Due
 pub mod Ended
 pub mod Left
 pub mod Own
+pub mod Pauses
+pub mod Reads
 pub mod Rightly
 pub mod Still
 pub mod Turn

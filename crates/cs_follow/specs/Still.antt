@@ -24,6 +24,12 @@ BehindTurn (turns.Stops outcome) holds = UnlessFailed outcome holds
 BehindTurn turns.CaughtUp holds = holds
 BehindTurn turns.On holds = holds
 
+-- what holds behind a turn with which nothing stops
+abbrev pub WhereOn : Turn → Type 0 → Type 0
+WhereOn (turns.Stops outcome) holds = ⊤
+WhereOn turns.CaughtUp holds = holds
+WhereOn turns.On holds = holds
+
 -- what holds where the follower ended or paused
 abbrev pub WhereDone : Outcome → Type 0 → Type 0
 WhereDone Outcome.Ended holds = holds

@@ -1,5 +1,5 @@
 //! Following a stream, READ by READ.
-ghost use Rattle.std.specs.Prelude.{◌≡◌, ◌≢◌, ◌<◌, ◌≤◌, ◌⊎◌, ℕ, List, Some, true, false, IfSome};
+ghost use Rattle.std.specs.Prelude.{◌≡◌, ◌≢◌, ◌<◌, ◌≤◌, ◌⊎◌, ℕ, List, Option, Some, true, false, IfSome};
 ghost use Rattle.cs_device.specs.Causes.{Rose as DiskRose};
 ghost use Rattle.cs_device.specs.Crash.{LeavesOnly};
 ghost use Rattle.cs_link.specs.declared.feed.Feed.{Feed};
@@ -12,6 +12,8 @@ ghost use Rattle.cs_book.specs.Book.{IsRunning, AreEntriesOf, StillTells};
 ghost use Rattle.cs_book.specs.Waiting.{AreFree};
 ghost use Rattle.cs_follow.specs.Carry.{CanCarry, IsCarrying};
 ghost use Rattle.cs_follow.specs.Own.{AreFollowing};
+ghost use Rattle.cs_follow.specs.Pauses.{HasComeTo, IsGettingOn, OverHonest};
+ghost use Rattle.cs_follow.specs.Reads.{HasRead, StartsAtRow};
 ghost use Rattle.cs_follow.specs.Complete.{CanEnd, OnlyEnds};
 ghost use Rattle.cs_follow.specs.Rightly.{IsKeptNoLonger, StopsRightly};
 ghost use Rattle.cs_follow.specs.Still.{UnlessFailed, WhereDone};
@@ -55,12 +57,18 @@ pub fn follow_one<K: Link, J: Disk, O: Disk>(
     // Over an honest link it pauses only where the link's moment was before the window's end, whatever the entries are; and over entries that follow the link's feed every outcome is right.
     ensures paused { IsRunning book.old → (f : Feed) → K.feed link.old book.old.board.window.stream ≡ Some f → IsHonestFor book.old.board.window.stream (K.feed link.old book.old.board.window.stream) (K.present link.old) → result ≡ outcomes.Paused → K.moment link.old < book.old.board.window.end }
     ensures rightly { IsRunning book.old → (f : Feed) (es : List Entry) → IsFollowed f book.old.board.window → K.feed link.old book.old.board.window.stream ≡ Some f → IsHonestFor book.old.board.window.stream (K.feed link.old book.old.board.window.stream) (K.present link.old) → AreEntriesOf J.seen O.seen book.old es → AreFollowing f book.old.board.window es → StopsRightly f book.old.board.window (K.moment link.old) (K.present link.new) (Rose (K.faults link.old) (K.faults link.new)) result }
+    // And then the low watermark has come to the moment that the link had as the call began, or at least as many rows have as the pace has turns.
+    ensures pause_means { IsRunning book.old → (f : Feed) (es : List Entry) → IsFollowed f book.old.board.window → K.feed link.old book.old.board.window.stream ≡ Some f → IsHonestFor book.old.board.window.stream (K.feed link.old book.old.board.window.stream) (K.present link.old) → AreEntriesOf J.seen O.seen book.old es → AreFollowing f book.old.board.window es → result ≡ outcomes.Paused → HasComeTo book.old.board.window.end (K.moment link.old) pace.now.turns book.new.board.rows }
+    // Over an honest link it never stops for records in a row that added nothing, whatever the entries are.
+    ensures never_stalled { IsRunning book.old → (f : Feed) → K.feed link.old book.old.board.window.stream ≡ Some f → IsHonestFor book.old.board.window.stream (K.feed link.old book.old.board.window.stream) (K.present link.old) → (token : Option (List ℕ)) (count : ℕ) → result ≢ outcomes.Stalled token count }
     // A READ is kept no longer only where it starts before what is kept at its moment; it never starts below the least start of the rows that the book then has.
     ensures least { IsRunning book.old → (f : Feed) (es : List Entry) → IsFollowed f book.old.board.window → K.feed link.old book.old.board.window.stream ≡ Some f → IsHonestFor book.old.board.window.stream (K.feed link.old book.old.board.window.stream) (K.present link.old) → AreEntriesOf J.seen O.seen book.old es → AreFollowing f book.old.board.window es → (earliest : ℕ) → result ≡ outcomes.RetentionPassed earliest → IsKeptNoLonger f book.old.board.window book.new.board.rows (K.present link.new) earliest }
     // Over an honest link whose heartbeats are paced, whose moment is not before the window's end, and which still keeps the least start of the book's rows, with room in the journal for what is expected: it ends.
     ensures complete { IsRunning book.old → (f : Feed) (es : List Entry) → AreEntriesOf J.seen O.seen book.old es → CanEnd f book.old.board.window (K.moment link.old) (K.feed link.old book.old.board.window.stream) (K.present link.old) (K.present link.new) (K.paced link.old) book.old.journal.gate book.old.board.rows es → OnlyEnds (Rose (K.faults link.old) (K.faults link.new)) (DiskRose (J.faults book.old.journal.disk) (J.faults book.new.journal.disk)) (DiskRose (O.faults book.old.output) (O.faults book.new.output)) result }
     // Entries that follow the link's feed do so as the call returns, unless a disk failed.
     ensures consistent { IsRunning book.old → (f : Feed) (es : List Entry) → IsFollowed f book.old.board.window → K.feed link.old book.old.board.window.stream ≡ Some f → IsHonestFor book.old.board.window.stream (K.feed link.old book.old.board.window.stream) (K.present link.old) → AreEntriesOf J.seen O.seen book.old es → AreFollowing f book.old.board.window es → UnlessFailed result ((next : List Entry) × AreEntriesOf J.seen O.seen book.new next × AreFollowing f book.old.board.window next) }
+    // Where the link tells the list of its READs: one of a row that was there as the call began starts where that row is read on, or above, and the row was not finished; one without a token comes only where there were no rows.
+    ensures reads { HasRead (K.reads link.old) (K.reads link.new) (StartsAtRow book.old.board.rows) }
     ensures window { book.new.board.window ≡ book.old.board.window }
     ensures objects { (J.same book.old.journal.disk book.new.journal.disk) × (O.same book.old.output book.new.output) }
     ensures disks_later { (J.faults book.old.journal.disk ≤ J.faults book.new.journal.disk) × (O.faults book.old.output ≤ O.faults book.new.output) }
@@ -122,6 +130,8 @@ fn follow<K: Link, J: Disk, O: Disk>(
     ensures carried { (f : Feed) (es : List Entry) → AreEntriesOf J.seen O.seen book.old es → CanCarry f book.old.board.window (K.moment link.old) (K.feed link.old book.old.board.window.stream) (K.present link.old) (K.paced link.old) book.old.journal.gate es → UnlessFailed result (IsCarrying J.seen O.seen f book.old.board.window book.new es) × ((n : ℕ) → result ≢ outcomes.Full n) }
     ensures still { UnlessFailed result (StillTells (J.seen book.old.journal.disk) (J.seen book.new.journal.disk) × StillTells (O.seen book.old.output) (O.seen book.new.output)) }
     ensures running { UnlessFailed result (IsRunning book.new) }
+    ensures reads { HasRead (K.reads link.old) (K.reads link.new) (StartsAtRow book.old.board.rows) }
+    ensures gets_on { OverHonest J.seen O.seen book.old.board.window (K.feed link.old book.old.board.window.stream) (K.present link.old) book.old (result ≡ outcomes.Paused → IsGettingOn (K.moment link.old) pace.now.turns book.new.board.rows) }
     ensures window { book.new.board.window ≡ book.old.board.window }
     ensures objects { (J.same book.old.journal.disk book.new.journal.disk) × (O.same book.old.output book.new.output) }
     ensures disks_later { (J.faults book.old.journal.disk ≤ J.faults book.new.journal.disk) × (O.faults book.old.output ≤ O.faults book.new.output) }

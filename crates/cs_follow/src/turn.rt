@@ -1,5 +1,6 @@
 //! One turn: a READ that is due, and what becomes of its batch.
-ghost use Rattle.std.specs.Prelude.{◌≡◌, ◌≢◌, ◌≤◌, ℕ, List, IfSome};
+ghost use Rattle.std.specs.Prelude.{◌≡◌, ◌≢◌, ◌≤◌, ℕ, List, IfSome, map};
+ghost use Rattle.cs_schedule.specs.Board.{fresh};
 ghost use Rattle.cs_device.specs.Causes.{Rose as DiskRose};
 ghost use Rattle.cs_device.specs.Crash.{CrashesLeave};
 ghost use Rattle.cs_link.specs.declared.feed.Feed.{Feed};
@@ -12,11 +13,13 @@ ghost use Rattle.cs_fetch.specs.declared.fault.FetchFault.TheVariants as fetch;
 ghost use Rattle.cs_follow.specs.declared.outcome.Outcome.TheVariants as outcomes;
 ghost use Rattle.cs_follow.specs.declared.turn.Turn.TheVariants as turns;
 ghost use Rattle.cs_book.specs.Book.{IsRunning, AreEntriesOf, StillTells};
-ghost use Rattle.cs_follow.specs.Still.{BehindTurn};
+ghost use Rattle.cs_follow.specs.Still.{BehindTurn, WhereOn};
 ghost use Rattle.cs_follow.specs.Carry.{CanCarry, IsCarrying};
 ghost use Rattle.cs_follow.specs.Due.{at_rest};
 ghost use Rattle.cs_book.specs.Planned.{is_caught_up};
 ghost use Rattle.cs_follow.specs.Turn.{refused_as, ToldAs, NotReservedAs, FailedAs, IsIdle, IsHeld, Settles, HoldsOldOrPlanned, IsTurnOver};
+ghost use Rattle.cs_follow.specs.Pauses.{IsGettingOn, GetsOn, IsFewest, OverHonest, Moves};
+ghost use Rattle.cs_follow.specs.Reads.{HasRead, StartsAtRow, NotBack};
 
 use crate::outcome::{Outcome, Pace};
 use cs_book::{Book, Claim, CommitFault, Lease, ReserveFault};
@@ -24,7 +27,9 @@ use cs_device::Disk;
 use cs_fetch::{FetchFault, fetch};
 use cs_link::{Batch, Breach, Ending, Limits, Link, ReadRefusal};
 use cs_room::{entries_are_carried, reads_start_at_low, something_is_planned};
-use cs_schedule::{boards_are_of_entries, boards_stay_consistent, leases_are_no_entries};
+use cs_schedule::{
+    boards_are_of_entries, boards_stay_consistent, leases_are_no_entries, rows_stay_right,
+};
 use cs_types::{Duplicate, Memory, Token};
 use std::alloc::Global;
 
@@ -122,6 +127,7 @@ fn settle<J: Disk, O: Disk>(
     ensures settles { (es : List Entry) → AreEntriesOf J.seen O.seen book.old es → Settles J.seen O.seen (DiskRose (J.faults book.old.journal.disk) (J.faults book.new.journal.disk)) (DiskRose (O.faults book.old.output) (O.faults book.new.output)) book.old book.new es batch.now result }
     ensures crashes { (es : List Entry) → AreEntriesOf J.seen O.seen book.old es → IfSome (J.seen book.old.journal.disk) (λ _. CrashesLeave (HoldsOldOrPlanned (at_rest book.old.board) batch.now es) (J.crash book.old.journal.disk) (J.crash book.new.journal.disk)) }
     ensures still { BehindTurn result (StillTells (J.seen book.old.journal.disk) (J.seen book.new.journal.disk) × StillTells (O.seen book.old.output) (O.seen book.new.output)) }
+    ensures moves { Moves book.old.board lease batch.now result book.new.board.rows }
     ensures objects { (J.same book.old.journal.disk book.new.journal.disk) × (O.same book.old.output book.new.output) }
     ensures later { (J.faults book.old.journal.disk ≤ J.faults book.new.journal.disk) × (O.faults book.old.output ≤ O.faults book.new.output) }
 {
@@ -172,6 +178,9 @@ fn read_on<K: Link, J: Disk, O: Disk>(
     ensures object { K.same link.old link.new }
     ensures stays_honest { (stream : List ℕ) → IsHonestFor stream (K.feed link.old stream) (K.present link.old) → IsHonestFor stream (K.feed link.new stream) (K.present link.new) }
     ensures stays_paced { K.paced link.old → K.paced link.new }
+    ensures reads { HasRead (K.reads link.old) (K.reads link.new) (StartsAtRow (map fresh book.old.board.rows)) }
+    ensures stays { WhereOn result (NotBack (map fresh book.old.board.rows) (map fresh book.new.board.rows)) }
+    ensures gets_on { (moment count : ℕ) → OverHonest J.seen O.seen book.old.board.window (K.feed link.old book.old.board.window.stream) (K.present link.old) book.old (moment ≤ K.moment link.old → IsFewest lease.args.token book.old.board.rows → IsGettingOn moment count book.old.board.rows → GetsOn moment count result book.new.board.rows) }
 {
     boards_stay_consistent();
     leases_are_no_entries();
@@ -213,8 +222,12 @@ pub(crate) fn take_turn<K: Link, J: Disk, O: Disk>(
     ensures object { K.same link.old link.new }
     ensures stays_honest { (stream : List ℕ) → IsHonestFor stream (K.feed link.old stream) (K.present link.old) → IsHonestFor stream (K.feed link.new stream) (K.present link.new) }
     ensures stays_paced { K.paced link.old → K.paced link.new }
+    ensures reads { HasRead (K.reads link.old) (K.reads link.new) (StartsAtRow (map fresh book.old.board.rows)) }
+    ensures stays { WhereOn result (NotBack (map fresh book.old.board.rows) (map fresh book.new.board.rows)) }
+    ensures gets_on { (moment count : ℕ) → OverHonest J.seen O.seen book.old.board.window (K.feed link.old book.old.board.window.stream) (K.present link.old) book.old (moment ≤ K.moment link.old → IsGettingOn moment count book.old.board.rows → GetsOn moment count result book.new.board.rows) }
 {
     leases_are_no_entries();
+    rows_stay_right();
     book.settled();
     match book.claim(alloc, pace.order) {
         Ok(Claim::Initial(lease)) => read_on(alloc, book, link, lease, &pace.limits),

@@ -150,8 +150,8 @@ fn crashes(alloc: Global) -> Result<String, LineCause> {
     Ok(told)
 }
 
-/// The run makes 24 calls of the journal and 12 of the output.
-const CRASHES: &str = " 6 30 8 20 6 30 8 20 6 30 8 20 6 30 8 20";
+/// The run makes 24 calls of the journal and 10 of the output.
+const CRASHES: &str = " 6 30 10 20 6 30 10 20 6 30 10 20 6 30 10 20";
 
 #[test]
 fn a_run_goes_on_behind_a_crash_at_any_call(rt: HostRuntime) -> Result<(), Fail> {

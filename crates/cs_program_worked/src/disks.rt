@@ -92,6 +92,6 @@ fn a_run_goes_on_behind_each_failed_call_of_the_journal(rt: HostRuntime) -> Resu
 #[test]
 fn a_run_goes_on_behind_each_failed_call_of_the_output(rt: HostRuntime) -> Result<(), Fail> {
     let told = tell_faults(rt.alloc(), true, 20, "41|41 OutputFault\n|")?;
-    assert_eq!(rt; told.as_str(), "8 20");
+    assert_eq!(rt; told.as_str(), "6 20");
     Ok(())
 }

@@ -160,7 +160,7 @@ module _ (db : Database) (w : Window) (s : Stream) (state : IsState db) (told : 
     abbrev Stopped : Status → Type 0
     Stopped status = IsStoppedIn seen text db w pace w.end before new es status
 
-    right_for : (status : Status) → Stopped status → IsGoodIn db w (output_of w es) × IsRightIn db w w.end (output_of w es) status
+    right_for : (status : Status) → Stopped status → IsGoodIn db w (output_of w es) × IsRightIn db w pace.turns w.end es status
     right_for status S = S.right here.feed ((told db w.stream here.feed state).0 here.told) (follow here.feed) (subst (λ n. n ≤ w.start) (sym here.created) born)
 
     -- where it has ended
@@ -181,7 +181,7 @@ module _ (db : Database) (w : Window) (s : Stream) (state : IsState db) (told : 
     not_at_end (Refused refusal) is S e j o f = absurd (not_refused refusal (right_for (Refused refusal) S).1)
     not_at_end LinkFault is S e j o f = absurd is
     not_at_end (Breach breach) is S e j o f = absurd (right_for (Breach breach) S).1
-    not_at_end (Stalled token count) is S e j o f = absurd (right_for (Stalled token count) S).1
+    not_at_end (Stalled token count) is S e j o f = absurd is
     not_at_end JournalFault is S e j o f = absurd (j refl)
     not_at_end OutputFault is S e j o f = absurd (o refl)
     not_at_end SourceFault is S e j o f = absurd is

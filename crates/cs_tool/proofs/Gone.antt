@@ -1,5 +1,5 @@
 -- From a book that was followed to what a replay answers of its files.
-use Rattle.std.proofs.Common.{◌≡◌, ◌∙◌, false, List, ℕ, Option, Some, None, subst}
+use Rattle.std.proofs.Common.{◌≡◌, ◌∙◌, false, List, [], ℕ, Option, Some, None, subst}
 use Rattle.std.specs.Prelude.{IfSome}
 use Rattle.cs_types.specs.declared.names.Window.{Window}
 use Rattle.cs_device.specs.Causes.{Rose}
@@ -8,6 +8,7 @@ use Rattle.cs_journal.specs.Rows.{gate_of}
 use Rattle.cs_journal.specs.State.{IsSettled, IsAtRest}
 use Rattle.cs_schedule.specs.declared.entry.Entry.{Entry}
 use Rattle.cs_schedule.specs.Consistent.{BeginIsConsistent}
+use Rattle.cs_schedule.specs.Rows.{Folds}
 use Rattle.cs_schedule.specs.Spelling.{PayloadsDiffer}
 use Rattle.cs_script.specs.Database.{Database}
 use Rattle.cs_link.specs.declared.feed.Feed.{Feed}
@@ -45,7 +46,7 @@ abbrev pub files_of : {J O : Type 0} → (J → Option (List ℕ)) → (J → Cr
 files_of seen crash faults text text_crash text_faults b = files (seen b.journal.disk) (crash b.journal.disk) (faults b.journal.disk) (text b.output) (text_crash b.output) (text_faults b.output)
 
 -- a book that was opened over files, and then followed
-module _ {J O : Type 0} (seen : J → Option (List ℕ)) (crash : J → Crash) (faults : J → ℕ) (text : O → Option (List ℕ)) (text_crash : O → Crash) (text_faults : O → ℕ) (begin : BeginIsConsistent) (differ : PayloadsDiffer) (db : Database) (w : Window) (pace : Pace) (moment : ℕ) (old : Files) (mid new : BookState J O) (es : List Entry) (from : IsFrom w old.journal es) (opened : StillTells old.journal (seen mid.journal.disk) × StillTells old.output (text mid.output)) (counts : (faults mid.journal.disk ≡ old.journal_faults) × (text_faults mid.output ≡ old.output_faults)) (mid_window : mid.board.window ≡ w) (window : new.board.window ≡ mid.board.window) where
+module _ {J O : Type 0} (seen : J → Option (List ℕ)) (crash : J → Crash) (faults : J → ℕ) (text : O → Option (List ℕ)) (text_crash : O → Crash) (text_faults : O → ℕ) (begin : BeginIsConsistent) (differ : PayloadsDiffer) (db : Database) (w : Window) (pace : Pace) (moment : ℕ) (old : Files) (mid new : BookState J O) (es : List Entry) (from : IsFrom w old.journal es) (begun : IfSome old.journal (λ bytes. IfSome old.output (λ t. HoldsEntries bytes [] → t ≡ []))) (opened : StillTells old.journal (seen mid.journal.disk) × StillTells old.output (text mid.output)) (counts : (faults mid.journal.disk ≡ old.journal_faults) × (text_faults mid.output ≡ old.output_faults)) (mid_window : mid.board.window ≡ w) (window : new.board.window ≡ mid.board.window) where
   abbrev pub Left : Files
   Left = files_of seen crash faults text text_crash text_faults new
 
@@ -55,10 +56,16 @@ module _ {J O : Type 0} (seen : J → Option (List ℕ)) (crash : J → Crash) (
   module _ (settled : new.journal.failed ≡ false → IsSettled (seen new.journal.disk) (crash new.journal.disk) new.journal.gate) where
     gone_on : (status : Status) (I : Followed status) → IsStoppedIn seen text db w pace moment es new I.next status → StillTells (seen mid.journal.disk) (seen new.journal.disk) × StillTells (text mid.output) (text new.output) → HasGoneOn db w pace moment old Left status
     gone_on status I S still = record {
+      first = es;
+      from = from;
+      begun = begun;
       entries = I.next;
+      more = I.more;
+      folds = subst (λ (v : Window). Folds v I.next) (window ∙ mid_window) S.entries.rows.folds;
       gate = new.journal.gate;
       held = at_gate (seen new.journal.disk) I.next new.journal.gate S.entries.held (settled S.journal).rest;
       still = still_then old.journal (seen mid.journal.disk) (seen new.journal.disk) opened.0 still.0;
+      durable = (settled S.journal).durable;
       output = on_told old.output (text new.output) (λ t. t ≡ output_of w I.next) (still_then old.output (text mid.output) (text new.output) opened.1 still.1) (subst (λ (v : Window). IfSome (text new.output) (λ t. t ≡ output_of v I.next)) (window ∙ mid_window) S.entries.told);
       cause = S.cause;
       follow = λ f is L. I.follow f is (opened_follow begin differ f w old L es from);
@@ -73,7 +80,7 @@ module _ {J O : Type 0} (seen : J → Option (List ℕ)) (crash : J → Crash) (
     replayed (Refused refusal) is I still durable = (gone_on (Refused refusal) I I.stops still, durable)
     replayed LinkFault is I still durable = absurd is
     replayed (Breach breach) is I still durable = (gone_on (Breach breach) I I.stops still, durable)
-    replayed (Stalled token count) is I still durable = (gone_on (Stalled token count) I I.stops still, durable)
+    replayed (Stalled token count) is I still durable = absurd is
     replayed JournalFault is I still durable = subst (λ n. Rose n (faults new.journal.disk)) counts.0 I.stops
     replayed OutputFault is I still durable = subst (λ n. Rose n (text_faults new.output)) counts.1 I.stops
     replayed SourceFault is I still durable = absurd is

@@ -6,6 +6,7 @@ use Rattle.cs_words.specs.declared.command.Command.{Command}
 use Rattle.cs_words.specs.declared.command.Command.TheVariants.{Replay}
 use Rattle.cs_words.specs.declared.command.ReplayOptions.{ReplayOptions}
 use Rattle.cs_tool.specs.Answers.{IsPastScript, IsCheckStatus, IsShowStatus}
+use Rattle.cs_tool.specs.Complete.{Completes, CompletesRun}
 use Rattle.cs_tool.specs.Database.{OnScript}
 use Rattle.cs_tool.specs.Journal.{Files, HasReplayed, Survives}
 use Rattle.cs_tool.specs.Run.{OnCommand, Replays, SurvivesRun, IsOfReplay, pace_of, window_of}
@@ -22,7 +23,7 @@ of_replay_past (RetentionPassed earliest) is = absurd is
 of_replay_past (Refused refusal) is = absurd is
 of_replay_past LinkFault is = absurd is
 of_replay_past (Breach breach) is = tt
-of_replay_past (Stalled token count) is = tt
+of_replay_past (Stalled token count) is = absurd is
 of_replay_past JournalFault is = tt
 of_replay_past OutputFault is = absurd is
 of_replay_past SourceFault is = absurd is
@@ -103,3 +104,7 @@ module _ (words : List (List ℕ)) (command : Command) (source : Option (List �
 
   pub replay_survives : (A : Type 0) → A ⊎ OnScript source (λ db. Survives db (window_of stream start end) old new) → A ⊎ OnCommand words (SurvivesRun source old new)
   replay_survives A = ⊎_elim (λ a. inl a) (λ h. inr (on_command words command Now (SurvivesRun source old new) is same h))
+
+  -- and that it comes to its end
+  pub replay_completes : (IsPastScript status → OnScript source (λ db. Completes db (window_of stream start end) moment old new status)) → IsPastScript status → OnCommand words (CompletesRun source old new status)
+  replay_completes complete past = on_command words command Now (CompletesRun source old new status) is same (subst (λ (m : ℕ). OnScript source (λ db. Completes db (window_of stream start end) m old new status)) moment_is (complete past))

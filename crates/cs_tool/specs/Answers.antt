@@ -14,7 +14,7 @@ use Rattle.cs_link.specs.declared.refusal.ReadRefusal.{ReadRefusal}
 use Rattle.cs_script.specs.Database.{Database}
 use Rattle.cs_tool.specs.Database.{IsStreamIn, HasNoStream, wanted_in, IsBadScript}
 use Rattle.cs_tool.specs.declared.status.Status.{Status}
-use Rattle.cs_tool.specs.declared.status.Status.TheVariants.{Ended, Paused, Verdict, RetentionPassed, Refused, Breach, Stalled, JournalFault, OutputFault, SourceFault, ConsoleFault, BadWords, BadScript, OtherJournal, BadJournal, Full, OutputNotEmpty, BadOutput, Memory}
+use Rattle.cs_tool.specs.declared.status.Status.TheVariants.{Ended, Paused, Verdict, RetentionPassed, Refused, Breach, JournalFault, OutputFault, SourceFault, ConsoleFault, BadWords, BadScript, OtherJournal, BadJournal, Full, OutputNotEmpty, BadOutput, Memory}
 
 -- an object that told its bytes tells them still, and they are so
 abbrev pub OnTold : Option (List ℕ) → Option (List ℕ) → (List ℕ → Type 0) → Type 0
@@ -69,7 +69,6 @@ IsReplayStatus Paused = ⊤
 IsReplayStatus (RetentionPassed earliest) = ⊤
 IsReplayStatus (Refused refusal) = ⊤
 IsReplayStatus (Breach breach) = ⊤
-IsReplayStatus (Stalled token count) = ⊤
 IsReplayStatus JournalFault = ⊤
 IsReplayStatus OutputFault = ⊤
 IsReplayStatus SourceFault = ⊤

@@ -12,6 +12,7 @@ use Rattle.cs_book.specs.Entries.{HoldsSuch}
 use Rattle.cs_follow.specs.declared.outcome.Outcome.{Outcome}
 use Rattle.cs_follow.specs.declared.outcome.Pace.{Pace}
 use Rattle.cs_follow.specs.Own.{AreFollowing}
+use Rattle.cs_follow.specs.Turn.{Extends}
 use Rattle.cs_tool.specs.Answers.{IsGoodIn}
 use Rattle.cs_tool.specs.Journal.{HasCauseIn, IsRightIn}
 use Rattle.cs_tool.specs.declared.status.Status.{Status}
@@ -38,7 +39,6 @@ IsFollowStatus Paused = ⊤
 IsFollowStatus (RetentionPassed earliest) = ⊤
 IsFollowStatus (Refused refusal) = ⊤
 IsFollowStatus (Breach breach) = ⊤
-IsFollowStatus (Stalled token count) = ⊤
 IsFollowStatus JournalFault = ⊤
 IsFollowStatus OutputFault = ⊤
 IsFollowStatus (Full length) = ⊤
@@ -50,7 +50,7 @@ pub record IsStoppedIn {J O : Type 0} (seen : J → Option (List ℕ)) (text : O
   pub journal : new.journal.failed ≡ false
   pub entries : AreEntriesOf seen text new es
   pub cause : HasCauseIn db w pace moment new.journal.gate es status
-  pub right : (f : Feed) → IsFeedOf db w.stream f → AreFollowing f w before → f.created ≤ w.start → IsGoodIn db w (output_of w es) × IsRightIn db w moment (output_of w es) status
+  pub right : (f : Feed) → IsFeedOf db w.stream f → AreFollowing f w before → f.created ≤ w.start → IsGoodIn db w (output_of w es) × IsRightIn db w pace.turns moment es status
 
 -- why it stopped: a call of a disk failed, or memory was wanting, or it has its cause
 abbrev pub StopsBy : {J O : Type 0} (seen : J → Option (List ℕ)) (text : O → Option (List ℕ)) → Type 0 → Type 0 → Database → Window → Pace → ℕ → List Entry → BookState J O → List Entry → Status → Type 0
@@ -59,11 +59,16 @@ StopsBy seen text rosej roseo db w pace moment before new es OutputFault = roseo
 StopsBy seen text rosej roseo db w pace moment before new es Memory = ⊤
 StopsBy seen text rosej roseo db w pace moment before new es status = IsStoppedIn seen text db w pace moment before new es status
 
--- what a follower of the window leaves of a book that held these entries: others that follow the feed where these did, also at each crash since, and why it stopped
+-- entries that follow the feed and go on from these
+abbrev pub FollowsOn : Feed → Window → List Entry → List Entry → Type 0
+FollowsOn f w es now = AreFollowing f w now × Extends es now
+
+-- what a follower of the window leaves of a book that held these entries: others that go on from these, and follow the feed where these did, also at each crash since, and why it stopped
 pub record IsFollowedIn {J O : Type 0} (seen : J → Option (List ℕ)) (text : O → Option (List ℕ)) (crash : J → Crash) (rosej roseo : Type 0) (db : Database) (w : Window) (pace : Pace) (moment : ℕ) (old new : BookState J O) (es : List Entry) (status : Status) : Type 0 where
   pub next : List Entry
+  pub more : Extends es next
   pub follow : (f : Feed) → IsFeedOf db w.stream f → AreFollowing f w es → AreFollowing f w next
-  pub crashes : (f : Feed) → IsFeedOf db w.stream f → AreFollowing f w es → IfSome (seen old.journal.disk) (λ _. CrashesLeave (HoldsSuch (AreFollowing f w)) (crash old.journal.disk) (crash new.journal.disk))
+  pub crashes : (f : Feed) → IsFeedOf db w.stream f → AreFollowing f w es → IfSome (seen old.journal.disk) (λ _. CrashesLeave (HoldsSuch (FollowsOn f w es)) (crash old.journal.disk) (crash new.journal.disk))
   pub stops : StopsBy seen text rosej roseo db w pace moment es new next status
 
 -- the disks that told their bytes tell bytes still, but where a call of one failed

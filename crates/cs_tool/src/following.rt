@@ -4,6 +4,7 @@ ghost use Rattle.cs_device.specs.Causes.{Rose};
 ghost use Rattle.cs_schedule.specs.declared.entry.Entry.{Entry};
 ghost use Rattle.cs_book.specs.Book.{IsRunning, AreEntriesOf, StillTells};
 ghost use Rattle.cs_book.specs.Waiting.{AreFree};
+ghost use Rattle.cs_tool.specs.Complete.{GoesOn};
 ghost use Rattle.cs_tool.specs.Database.{IsStreamIn};
 ghost use Rattle.cs_tool.specs.Following.{IsSaidOf, IsFollowStatus, IsFollowedIn, DisksTell};
 ghost use Rattle.cs_tool.specs.Journal.{IsDurable};
@@ -15,6 +16,7 @@ use cs_device::Disk;
 use cs_follow::{Outcome, Pace, ended_texts_are_complete, follow_one};
 use cs_link::ReadRefusal;
 use cs_read::{states_are_kept, streams_are_sound};
+use cs_room::{reads_start_at_low, room_is_enough};
 use cs_schema::Stream;
 use cs_script::ServerState;
 use cs_server::{ServerLink, feeds_are_told_by_name};
@@ -46,6 +48,7 @@ pub(crate) fn follow_window<J: Disk, O: Disk>(
     requires free { AreFree book.old.board.rows × (book.old.is_opening ≡ false) }
     requires window { book.old.board.window ≡ window.now }
     ensures followed { (es : List Entry) → AreEntriesOf J.seen O.seen book.old es → IsFollowedIn J.seen O.seen J.crash (Rose (J.faults book.old.journal.disk) (J.faults book.new.journal.disk)) (Rose (O.faults book.old.output) (O.faults book.new.output)) state.now book.old.board.window going.now.pace going.now.moment book.old book.new es result }
+    ensures complete { (es : List Entry) → AreEntriesOf J.seen O.seen book.old es → GoesOn (Rose (J.faults book.old.journal.disk) (J.faults book.new.journal.disk)) (Rose (O.faults book.old.output) (O.faults book.new.output)) state.now book.old.board.window going.now.moment book.old.journal.gate es result }
     ensures answers { IsFollowStatus result }
     ensures durable { IsDurable (O.seen book.new.output) (O.crash book.new.output) result }
     ensures still { DisksTell result (StillTells (J.seen book.old.journal.disk) (J.seen book.new.journal.disk) × StillTells (O.seen book.old.output) (O.seen book.new.output)) }
@@ -81,6 +84,7 @@ fn follow_stream<J: Disk, O: Disk>(
     requires there { IsStreamIn state.now book.old.board.window.stream stream.now }
     requires created { stream.now.created ≤ book.old.board.window.start }
     ensures followed { (es : List Entry) → AreEntriesOf J.seen O.seen book.old es → IsFollowedIn J.seen O.seen J.crash (Rose (J.faults book.old.journal.disk) (J.faults book.new.journal.disk)) (Rose (O.faults book.old.output) (O.faults book.new.output)) state.now book.old.board.window going.now.pace going.now.moment book.old book.new es result }
+    ensures complete { (es : List Entry) → AreEntriesOf J.seen O.seen book.old es → GoesOn (Rose (J.faults book.old.journal.disk) (J.faults book.new.journal.disk)) (Rose (O.faults book.old.output) (O.faults book.new.output)) state.now book.old.board.window going.now.moment book.old.journal.gate es result }
     ensures answers { IsFollowStatus result }
     ensures durable { IsDurable (O.seen book.new.output) (O.crash book.new.output) result }
     ensures still { DisksTell result (StillTells (J.seen book.old.journal.disk) (J.seen book.new.journal.disk) × StillTells (O.seen book.old.output) (O.seen book.new.output)) }
@@ -93,10 +97,13 @@ fn follow_stream<J: Disk, O: Disk>(
     feeds_are_told_by_name();
     consistent_texts_are_good();
     ended_texts_are_complete();
+    room_is_enough();
+    reads_start_at_low();
     book.settled();
     let _start = book.board().window().start.us();
     let mut link = ServerLink::new(alloc, state, going.moment);
     let outcome = follow_one(alloc, book, &mut link, &going.pace);
+    book.settled();
     status_of(outcome)
 }
 

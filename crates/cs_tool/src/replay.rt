@@ -3,6 +3,7 @@ ghost use Rattle.std.specs.Prelude.{◌≡◌, ◌≤◌, ◌⊎◌, ℕ, length
 ghost use Rattle.cs_device.specs.Causes.{Rose};
 ghost use Rattle.cs_book.specs.declared.fault.OpenFault.{OpenFault as Fault};
 ghost use Rattle.cs_tool.specs.Answers.{IsReplayStatus, IsPastScript};
+ghost use Rattle.cs_tool.specs.Complete.{Completes};
 ghost use Rattle.cs_tool.specs.Database.{OnScript, IsBadScript};
 ghost use Rattle.cs_tool.specs.Journal.{files, HasReplayed, Survives, IsOpenStatus, IsNotOpened};
 ghost use Rattle.cs_tool.specs.Run.{IsBeforeFiles};
@@ -38,6 +39,7 @@ pub(crate) fn replay<S: Source, J: Disk, O: Disk>(
     ensures output_fault { result ≡ status.OutputFault → Rose (O.faults output.old) (O.faults output.new) }
     ensures source_fault { result ≡ status.SourceFault → Rose (S.faults script.old) (S.faults script.new) }
     ensures bad_script { (line : ℕ) (cause : _) → result ≡ status.BadScript line cause → IfSome (S.left script.old) (IsBadScript line cause) }
+    ensures complete { IsPastScript result → OnScript (S.left script.old) (λ db. Completes db window.now going.now.moment (files (J.seen journal.old) (J.crash journal.old) (J.faults journal.old) (O.seen output.old) (O.crash output.old) (O.faults output.old)) (files (J.seen journal.new) (J.crash journal.new) (J.faults journal.new) (O.seen output.new) (O.crash output.new) (O.faults output.new)) result) }
     ensures answers { IsReplayStatus result }
     ensures untouched { IsBeforeFiles result → (journal.new ≡ journal.old) × (output.new ≡ output.old) }
     ensures script_object { S.same script.old script.new }
@@ -69,6 +71,7 @@ fn go_on<J: Disk, O: Disk>(
     requires stream { length window.now.stream ≤ 128 }
     ensures replayed { HasReplayed state.now window.now going.now.pace going.now.moment (files (J.seen journal.old) (J.crash journal.old) (J.faults journal.old) (O.seen output.old) (O.crash output.old) (O.faults output.old)) (files (J.seen journal.new) (J.crash journal.new) (J.faults journal.new) (O.seen output.new) (O.crash output.new) (O.faults output.new)) result }
     ensures survives { Survives state.now window.now (files (J.seen journal.old) (J.crash journal.old) (J.faults journal.old) (O.seen output.old) (O.crash output.old) (O.faults output.old)) (files (J.seen journal.new) (J.crash journal.new) (J.faults journal.new) (O.seen output.new) (O.crash output.new) (O.faults output.new)) }
+    ensures complete { Completes state.now window.now going.now.moment (files (J.seen journal.old) (J.crash journal.old) (J.faults journal.old) (O.seen output.old) (O.crash output.old) (O.faults output.old)) (files (J.seen journal.new) (J.crash journal.new) (J.faults journal.new) (O.seen output.new) (O.crash output.new) (O.faults output.new)) result }
     ensures answers { IsOpenStatus result }
     ensures journal_object { J.same journal.old journal.new }
     ensures output_object { O.same output.old output.new }
@@ -95,6 +98,7 @@ fn over_output<J: Disk, O: Disk>(
     requires stream { length window.now.stream ≤ 128 }
     ensures replayed { HasReplayed state.now window.now going.now.pace going.now.moment (files (J.seen journal) (J.crash journal) (J.faults journal) (O.seen output.old) (O.crash output.old) (O.faults output.old)) (files (J.seen result.1) (J.crash result.1) (J.faults result.1) (O.seen output.new) (O.crash output.new) (O.faults output.new)) result.0 }
     ensures survives { Survives state.now window.now (files (J.seen journal) (J.crash journal) (J.faults journal) (O.seen output.old) (O.crash output.old) (O.faults output.old)) (files (J.seen result.1) (J.crash result.1) (J.faults result.1) (O.seen output.new) (O.crash output.new) (O.faults output.new)) }
+    ensures complete { Completes state.now window.now going.now.moment (files (J.seen journal) (J.crash journal) (J.faults journal) (O.seen output.old) (O.crash output.old) (O.faults output.old)) (files (J.seen result.1) (J.crash result.1) (J.faults result.1) (O.seen output.new) (O.crash output.new) (O.faults output.new)) result.0 }
     ensures answers { IsOpenStatus result.0 }
     ensures journal_object { J.same journal result.1 }
     ensures output_object { O.same output.old output.new }
@@ -120,6 +124,7 @@ fn over_files<J: Disk, O: Disk>(
     requires stream { length window.now.stream ≤ 128 }
     ensures replayed { HasReplayed state.now window.now going.now.pace going.now.moment (files (J.seen journal) (J.crash journal) (J.faults journal) (O.seen output) (O.crash output) (O.faults output)) (files (J.seen result.1) (J.crash result.1) (J.faults result.1) (O.seen result.2) (O.crash result.2) (O.faults result.2)) result.0 }
     ensures survives { Survives state.now window.now (files (J.seen journal) (J.crash journal) (J.faults journal) (O.seen output) (O.crash output) (O.faults output)) (files (J.seen result.1) (J.crash result.1) (J.faults result.1) (O.seen result.2) (O.crash result.2) (O.faults result.2)) }
+    ensures complete { Completes state.now window.now going.now.moment (files (J.seen journal) (J.crash journal) (J.faults journal) (O.seen output) (O.crash output) (O.faults output)) (files (J.seen result.1) (J.crash result.1) (J.faults result.1) (O.seen result.2) (O.crash result.2) (O.faults result.2)) result.0 }
     ensures answers { IsOpenStatus result.0 }
     ensures journal_object { J.same journal result.1 }
     ensures output_object { O.same output result.2 }
@@ -132,6 +137,7 @@ fn over_files<J: Disk, O: Disk>(
         Ok(book) => book,
         Err((fault, journal, output)) => return (not_opened(fault), journal, output),
     };
+    book.settled();
     let status = follow_window(alloc, state, &mut book, window, going);
     book.settled();
     let (journal, output) = book.close();

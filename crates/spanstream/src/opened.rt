@@ -43,6 +43,7 @@ pub fn run_on(rt: &HostRuntime, words: &[String]) -> u8 {
         }
         Ok(Command::Show { script, .. }) => show(rt, words, script.as_str()),
         Ok(Command::Gen { .. }) => without_files(rt, words),
+        Err(WordsFault::Memory) => no_memory(rt),
         Err(fault) => {
             hint(rt, words, fault);
             without_files(rt, words)
@@ -108,7 +109,7 @@ fn check(rt: &HostRuntime, words: &[String], script: &str, output: &str) -> u8 {
         return cannot_open(rt, output);
     };
     let Ok(mut journal) = no_disk(rt) else {
-        return say(rt, &Status::Memory, &NO_PATHS);
+        return no_memory(rt);
     };
     let mut source = shown(rt, source);
     let mut output_disk = FileDisk::new(output_file);
@@ -123,7 +124,7 @@ fn show(rt: &HostRuntime, words: &[String], script: &str) -> u8 {
         return cannot_open(rt, script);
     };
     let (Ok(mut journal), Ok(mut output)) = (no_disk(rt), no_disk(rt)) else {
-        return say(rt, &Status::Memory, &NO_PATHS);
+        return no_memory(rt);
     };
     let mut source = shown(rt, source);
     let status = on_objects(rt, words, &mut source, &mut journal, &mut output);
@@ -131,11 +132,17 @@ fn show(rt: &HostRuntime, words: &[String], script: &str) -> u8 {
     say(rt, &status, &paths)
 }
 
+/// Says that there is not enough memory, where the top call was not made.
+fn no_memory(rt: &HostRuntime) -> u8 {
+    let _ = println!(rt; "60 Memory");
+    say(rt, &Status::Memory, &NO_PATHS)
+}
+
 /// Empty objects in memory stand for what the words do not name.
 fn without_files(rt: &HostRuntime, words: &[String]) -> u8 {
     match in_memory(rt, words) {
         Ok(status) => say(rt, &status, &NO_PATHS),
-        Err(Memory) => say(rt, &Status::Memory, &NO_PATHS),
+        Err(Memory) => no_memory(rt),
     }
 }
 

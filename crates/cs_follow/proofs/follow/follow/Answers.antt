@@ -1,15 +1,20 @@
-use Rattle.std.proofs.Common.{◌∙◌, ◌≤◌, refl, sym, subst, ap, arith}
+use Rattle.std.proofs.Common.{◌∙◌, ◌≤◌, ◌-◌, map, refl, sym, subst, ap, arith}
 use Rattle.cs_device.specs.Causes.{Rose as DiskRose}
 use Rattle.cs_link.specs.Causes.{Rose}
 use Rattle.cs_book.specs.Waiting.{AreFree}
 use Rattle.cs_follow.specs.declared.turn.Turn.TheVariants as turns
+use Rattle.cs_schedule.specs.Board.{fresh}
 use Rattle.cs_follow.specs.Due.{at_rest}
+use Rattle.cs_follow.specs.Pauses.{IsGettingOn}
+use Rattle.cs_follow.specs.Reads.{StartsAtRow, NotBack}
 use Rattle.cs_follow.specs.Turn.{IsTurnOver}
 use Rattle.cs_follow.proofs.AtRest.{fresh_free}
 use Rattle.cs_follow.proofs.Carrying.{carry_start, turn_carries}
 use Rattle.cs_follow.proofs.Causes.{told_now, told_then}
 use Rattle.cs_follow.proofs.Looping.{raised_next, raised_none, caught_differs, on_differs}
 use Rattle.cs_follow.proofs.FollowOver.{reached_now, reached_caught, reached_on, followed_stop, followed_pause, rose_from, same_rose}
+use Rattle.cs_follow.proofs.Pausing.{getting_first, getting_then, getting_next, getting_last, stops_otherwise}
+use Rattle.cs_follow.proofs.Reading.{read_none, back_fresh, back_then, read_on_then}
 use Rattle.cs_follow.proofs.Still.{still_same, still_then}
 use Rattle.cs_follow.proofs.follow.follow.Goals as goal
 
@@ -42,6 +47,9 @@ turns-init g c =
       object = g.met.K.Link.same_now c.args.link.now;
       honest = λ stream h. h;
       paced = λ h. h;
+      rows = subst (λ l. NotBack old.board.rows (map fresh l)) (sym c.fresh.ensures.rows) (back_then old.board.rows (map fresh old.board.rows) (map fresh (map fresh old.board.rows)) (back_fresh old.board.rows) (back_fresh (map fresh old.board.rows)));
+      reads = read_none (g.K.Link.reads c.args.link.now) (StartsAtRow old.board.rows);
+      getting_on = λ f es F tells H E A. subst (IsGettingOn (g.K.Link.moment c.args.link.now) (c.args.pace.now.turns - c.args.pace.now.turns)) (sym c.fresh.ensures.rows) (getting_first (g.K.Link.moment c.args.link.now) c.args.pace.now.turns old.board.rows);
       reached = λ es E. reached_now g.J.Disk.seen g.O.Disk.seen g.J.Disk.crash (g.K.Link.feed c.args.link.now old.board.window.stream) (g.K.Link.present c.args.link.now) old new es journal (c.settled.ensures.journal c.requires.running.journal) E (c.fresh.ensures.entries es E);
       carried = λ f es E C. carry_start g.J.Disk.seen g.O.Disk.seen f old.board.window (g.K.Link.moment c.args.link.now) (g.K.Link.feed c.args.link.now old.board.window.stream) (g.K.Link.present c.args.link.now) (g.K.Link.paced c.args.link.now) old.journal.gate new es (ap (λ j. j.gate) journal) (c.fresh.ensures.entries es E) C;
     }
@@ -142,6 +150,11 @@ turns-preserved-in-CaughtUp g c =
       object = g.met.K.Link.same_then _ _ _ inv.object c.take_turn.ensures.object;
       honest = λ stream h. c.take_turn.ensures.stays_honest stream (inv.honest stream h);
       paced = λ p. c.take_turn.ensures.stays_paced (inv.paced p);
+      rows = back_then old.board.rows (map fresh book.board.rows) (map fresh new.board.rows) inv.rows c.in-CaughtUp.ensures.stays;
+      reads = read_on_then (g.K.Link.reads c.args.link.now) (g.K.Link.reads c.turns.link) (g.K.Link.reads c.take_turn.new.link) old.board.rows (map fresh book.board.rows) inv.rows inv.reads c.take_turn.ensures.reads;
+      getting_on = λ f es F tells H E A.
+          let G = getting_then g.J.Disk.seen g.O.Disk.seen g.J.Disk.crash (g.K.Link.feed c.args.link.now) (g.K.Link.feed c.turns.link) a b since later inv.moment old book inv.window (inv.feed w.stream) (inv.honest w.stream) inv.reached (c.args.pace.now.turns - c.turns.left) inv.getting_on new.board.rows c.take_turn.result turns.CaughtUp c.in-CaughtUp.is (c.take_turn.ensures.gets_on since (c.args.pace.now.turns - c.turns.left)) f es F tells H E A in
+          getting_next since c.args.pace.now.turns c.turns.left new.board.rows inv.some inv.most G;
       reached = λ es E.
           let R = inv.reached es E in
           let U = subst (IsTurnOver g.J.Disk.seen g.O.Disk.seen g.J.Disk.crash limits later b now count count_now rose rosej roseo (g.K.Link.feed c.turns.link book.board.window.stream) book.board.window (at_rest book.board) book.journal new R.mid) c.in-CaughtUp.is (c.take_turn.ensures.turn R.mid R.entries) in
@@ -195,6 +208,11 @@ turns-preserved g c =
       object = g.met.K.Link.same_then _ _ _ inv.object c.take_turn.ensures.object;
       honest = λ stream h. c.take_turn.ensures.stays_honest stream (inv.honest stream h);
       paced = λ p. c.take_turn.ensures.stays_paced (inv.paced p);
+      rows = back_then old.board.rows (map fresh book.board.rows) (map fresh new.board.rows) inv.rows c.in-On.ensures.stays;
+      reads = read_on_then (g.K.Link.reads c.args.link.now) (g.K.Link.reads c.turns.link) (g.K.Link.reads c.take_turn.new.link) old.board.rows (map fresh book.board.rows) inv.rows inv.reads c.take_turn.ensures.reads;
+      getting_on = λ f es F tells H E A.
+          let G = getting_then g.J.Disk.seen g.O.Disk.seen g.J.Disk.crash (g.K.Link.feed c.args.link.now) (g.K.Link.feed c.turns.link) a b since later inv.moment old book inv.window (inv.feed w.stream) (inv.honest w.stream) inv.reached (c.args.pace.now.turns - c.turns.left) inv.getting_on new.board.rows c.take_turn.result turns.On c.in-On.is (c.take_turn.ensures.gets_on since (c.args.pace.now.turns - c.turns.left)) f es F tells H E A in
+          G;
       reached = λ es E.
           let R = inv.reached es E in
           let U = subst (IsTurnOver g.J.Disk.seen g.O.Disk.seen g.J.Disk.crash limits later b now count count_now rose rosej roseo (g.K.Link.feed c.turns.link book.board.window.stream) book.board.window (at_rest book.board) book.journal new R.mid) c.in-On.is (c.take_turn.ensures.turn R.mid R.entries) in
@@ -217,3 +235,37 @@ returns-then-left-le1-clause-carried g c = λ f es E C.
     let I = inv.carried f es E C in
     let K = turn_carries g.J.Disk.seen g.O.Disk.seen f (g.K.Link.moment c.args.link.now) (g.K.Link.moment c.turns.link) (g.K.Link.feed c.args.link.now) (g.K.Link.feed c.turns.link) (g.K.Link.present c.args.link.now) (g.K.Link.present c.turns.link) (g.K.Link.paced c.args.link.now) (g.K.Link.paced c.turns.link) c.args.book.now c.turns.book c.take_turn.new.book inv.window inv.moment (inv.feed c.args.book.now.board.window.stream) (inv.honest c.args.book.now.board.window.stream) inv.paced es C I c.take_turn.result turns.CaughtUp c.in-CaughtUp.is (c.take_turn.ensures.carried f I.now I.entries) in
     (K.0, λ n is. absurd cc)
+
+pub returns-in-Stops-clause-reads : goal.returns-in-Stops-clause-reads
+returns-in-Stops-clause-reads g c = read_on_then (g.K.Link.reads c.args.link.now) (g.K.Link.reads c.turns.link) (g.K.Link.reads c.take_turn.new.link) c.args.book.now.board.rows (map fresh c.turns.book.board.rows) c.turns.invariant.rows c.turns.invariant.reads c.take_turn.ensures.reads
+
+pub returns-then-left-le1-clause-reads : goal.returns-then-left-le1-clause-reads
+returns-then-left-le1-clause-reads g c = read_on_then (g.K.Link.reads c.args.link.now) (g.K.Link.reads c.turns.link) (g.K.Link.reads c.take_turn.new.link) c.args.book.now.board.rows (map fresh c.turns.book.board.rows) c.turns.invariant.rows c.turns.invariant.reads c.take_turn.ensures.reads
+
+pub returns-in-Stops-clause-gets_on : goal.returns-in-Stops-clause-gets_on
+returns-in-Stops-clause-gets_on g c = λ f es F tells H E A paused.
+    let inv = c.turns.invariant in
+    let book = c.turns.book in
+    let new = c.take_turn.new.book in
+    let limits = c.args.pace.now.limits in
+    let later = g.K.Link.moment c.turns.link in
+    let b = g.K.Link.present c.turns.link in
+    let now = g.K.Link.present c.take_turn.new.link in
+    let count = g.K.Link.caught_up c.turns.link in
+    let count_now = g.K.Link.caught_up c.take_turn.new.link in
+    let rose = Rose (g.K.Link.faults c.turns.link) (g.K.Link.faults c.take_turn.new.link) in
+    let rosej = DiskRose (g.J.Disk.faults book.journal.disk) (g.J.Disk.faults new.journal.disk) in
+    let roseo = DiskRose (g.O.Disk.faults book.output) (g.O.Disk.faults new.output) in
+    let here = c.settled-in-turns.ensures.entries inv.idle.running in
+    let T = subst (IsTurnOver g.J.Disk.seen g.O.Disk.seen g.J.Disk.crash limits later b now count count_now rose rosej roseo (g.K.Link.feed c.turns.link book.board.window.stream) book.board.window (at_rest book.board) book.journal new here.0) c.in-Stops.is (c.take_turn.ensures.turn here.0 here.1) in
+    absurd (stops_otherwise g.J.Disk.seen g.O.Disk.seen limits later b now count count_now rose rosej roseo book.board.window (at_rest book.board) new here.0 T.next c.in-Stops.outcome T.does paused)
+
+pub returns-then-left-le1-clause-gets_on : goal.returns-then-left-le1-clause-gets_on
+returns-then-left-le1-clause-gets_on g c = λ f es F tells H E A paused.
+    let inv = c.turns.invariant in
+    let old = c.args.book.now in
+    let w = old.board.window in
+    let since = g.K.Link.moment c.args.link.now in
+    let new = c.take_turn.new.book in
+    let G = getting_then g.J.Disk.seen g.O.Disk.seen g.J.Disk.crash (g.K.Link.feed c.args.link.now) (g.K.Link.feed c.turns.link) (g.K.Link.present c.args.link.now) (g.K.Link.present c.turns.link) since (g.K.Link.moment c.turns.link) inv.moment old c.turns.book inv.window (inv.feed w.stream) (inv.honest w.stream) inv.reached (c.args.pace.now.turns - c.turns.left) inv.getting_on new.board.rows c.take_turn.result turns.CaughtUp c.in-CaughtUp.is (c.take_turn.ensures.gets_on since (c.args.pace.now.turns - c.turns.left)) f es F tells H E A in
+    getting_last since c.args.pace.now.turns c.turns.left new.board.rows inv.some c.if-left-le1.true inv.most G

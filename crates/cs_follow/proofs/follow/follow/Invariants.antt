@@ -7,6 +7,8 @@ use Rattle.cs_book.specs.Book.{AreEntriesOf, StillTells}
 use Rattle.cs_follow.specs.Carry.{CanCarry, IsCarrying}
 use Rattle.cs_follow.specs.Cause.{raised}
 use Rattle.cs_follow.specs.Left.{left_of}
+use Rattle.cs_follow.specs.Pauses.{IsGettingOn, OverHonest}
+use Rattle.cs_follow.specs.Reads.{HasRead, StartsAtRow, NotBack}
 use Rattle.cs_follow.specs.Turn.{IsIdle, StaysTold, HasReached}
 use Rattle.cs_follow.proofs.follow.follow.Given as goal
 
@@ -30,6 +32,9 @@ invariant-turns g l = record {
   object : g.K.Link.same l.fn.link l.link;
   honest : (stream : List ℕ) → IsHonestFor stream (g.K.Link.feed l.fn.link stream) (g.K.Link.present l.fn.link) → IsHonestFor stream (g.K.Link.feed l.link stream) (g.K.Link.present l.link);
   paced : g.K.Link.paced l.fn.link → g.K.Link.paced l.link;
+  rows : NotBack l.fn.book.board.rows (map fresh l.book.board.rows);
+  reads : HasRead (g.K.Link.reads l.fn.link) (g.K.Link.reads l.link) (StartsAtRow l.fn.book.board.rows);
+  getting_on : OverHonest g.J.Disk.seen g.O.Disk.seen l.fn.book.board.window (g.K.Link.feed l.fn.link l.fn.book.board.window.stream) (g.K.Link.present l.fn.link) l.fn.book (IsGettingOn (g.K.Link.moment l.fn.link) (l.fn.pace.turns - l.left) l.book.board.rows);
   reached : (es : List Entry) → AreEntriesOf g.J.Disk.seen g.O.Disk.seen l.fn.book es → HasReached g.J.Disk.seen g.O.Disk.seen g.J.Disk.crash (g.K.Link.feed l.fn.link l.fn.book.board.window.stream) (g.K.Link.present l.fn.link) l.fn.book l.book es;
   carried : (f : Feed) (es : List Entry) → AreEntriesOf g.J.Disk.seen g.O.Disk.seen l.fn.book es → CanCarry f l.fn.book.board.window (g.K.Link.moment l.fn.link) (g.K.Link.feed l.fn.link l.fn.book.board.window.stream) (g.K.Link.present l.fn.link) (g.K.Link.paced l.fn.link) l.fn.book.journal.gate es → IsCarrying g.J.Disk.seen g.O.Disk.seen f l.fn.book.board.window l.book es;
 }

@@ -1,4 +1,4 @@
-use Rattle.std.proofs.Common.{◌≡◌, ◌∙◌, refl, subst, ap}
+use Rattle.std.proofs.Common.{◌≡◌, ◌∙◌, refl, sym, subst, ap, arith}
 use Rattle.cs_types.specs.declared.names.Window.{Window}
 use Rattle.cs_types.specs.Stamp.{IsStamp}
 use Rattle.cs_device.specs.Causes.{Rose as DiskRose}
@@ -7,9 +7,12 @@ use Rattle.cs_schedule.specs.Board.{Shown}
 use Rattle.cs_follow.specs.Carry.{IsCarrying}
 use Rattle.cs_follow.proofs.Ends.{kept_no_longer, only_ends}
 use Rattle.cs_follow.proofs.Looping.{same_feed}
+use Rattle.cs_follow.specs.Pauses.{HasComeTo}
+use Rattle.cs_follow.proofs.Pausing.{has_come}
 use Rattle.cs_follow.proofs.Right.{paused_before, right_of, stopped_entries}
 use Rattle.cs_follow.proofs.Still.{unless_from}
 use Rattle.cs_follow.proofs.Synced.{right_synced, paused_synced, link_synced, unless_synced, full_synced, carrying_synced, followed_synced}
+use Rattle.cs_follow.proofs.Tireless.{never_stalled, stalled_synced}
 use Rattle.cs_follow.proofs.follow.follow_one.Goals as goal
 
 pub returns-clause-followed : goal.returns-clause-followed
@@ -37,6 +40,14 @@ returns-clause-paused g c = λ running f tells honest is.
     paused_before g.J.Disk.seen g.O.Disk.seen c.args.pace.now.limits (g.K.Link.moment c.args.link.now) (g.K.Link.present c.args.link.now) now c.args.pace.now.turns (g.K.Link.caught_up c.args.link.now) (g.K.Link.caught_up c.follow-outcome.new.link)
     (Rose (g.K.Link.faults c.args.link.now) (g.K.Link.faults c.follow-outcome.new.link)) (DiskRose (g.J.Disk.faults old.journal.disk) (g.J.Disk.faults mid.journal.disk)) (DiskRose (g.O.Disk.faults old.output) (g.O.Disk.faults mid.output)) mid P.next w c.follow-outcome.ensures.window f
     (g.K.Link.feed c.args.link.now w.stream) (g.K.Link.feed c.follow-outcome.new.link w.stream) honest H same c.follow-outcome.result (paused_synced _ _ c.follow-outcome.result c.finish.result c.finish.ensures.outcome is) P.stops
+
+pub returns-clause-pause_means : goal.returns-clause-pause_means
+returns-clause-pause_means g c = λ running f es F tells honest E A is.
+    let w = c.args.book.now.board.window in
+    let since = g.K.Link.moment c.args.link.now in
+    let early = returns-clause-paused g c running f tells honest is in
+    let paused = paused_synced _ _ c.follow-outcome.result c.finish.result c.finish.ensures.outcome is in
+    subst (λ (b : Shown). HasComeTo w.end since c.args.pace.now.turns b.rows) (sym c.finish.ensures.board) (has_come w.end since c.args.pace.now.turns c.follow-outcome.new.book.board.rows (omega (arith, early)) (c.follow-outcome.ensures.gets_on f es F tells honest E A paused))
 
 pub returns-clause-rightly : goal.returns-clause-rightly
 returns-clause-rightly g c = λ running f es F tells honest E A.
@@ -96,3 +107,17 @@ returns-clause-complete g c = λ running f es E C.
     only_ends g.J.Disk.seen g.O.Disk.seen f w (g.K.Link.moment c.args.link.now) (g.K.Link.feed c.args.link.now w.stream) (g.K.Link.present c.args.link.now) now (g.K.Link.paced c.args.link.now) old.journal.gate old new es C c.reads_start_at_low.ensures.of E refl window
     c.args.pace.now.limits c.args.pace.now.turns (g.K.Link.caught_up c.args.link.now) (g.K.Link.caught_up c.follow-outcome.new.link) (Rose (g.K.Link.faults c.args.link.now) (g.K.Link.faults c.follow-outcome.new.link)) (DiskRose (g.J.Disk.faults old.journal.disk) (g.J.Disk.faults new.journal.disk)) (DiskRose (g.O.Disk.faults old.output) (g.O.Disk.faults new.output)) P.next c.finish.result carrying
     (full_synced _ _ c.follow-outcome.result c.finish.result c.finish.ensures.outcome K.1) P.stops (returns-clause-rightly g c running f es F tells honest E A) (λ earliest is. returns-clause-least g c running f es F tells honest E A earliest is)
+
+pub returns-clause-never_stalled : goal.returns-clause-never_stalled
+returns-clause-never_stalled g c = λ running f tells honest token count is.
+    let old = c.args.book.now in
+    let mid = c.follow-outcome.new.book in
+    let w = old.board.window in
+    let now = g.K.Link.present c.follow-outcome.new.link in
+    let range : IsStamp w.end = subst IsStamp (c.us-end.ensures.value ∙ ap (λ (v : Window). v.end) c.window.ensures ∙ ap (λ (b : Shown). b.window.end) c.board.ensures) c.us-end.ensures.range in
+    let here = c.settled.ensures.entries running in
+    let P = c.follow-outcome.ensures.followed here.0 here.1 in
+    let H = c.follow-outcome.ensures.stays_honest w.stream honest in
+    never_stalled g.J.Disk.seen g.O.Disk.seen c.args.pace.now.limits (g.K.Link.moment c.args.link.now) (g.K.Link.present c.args.link.now) now c.args.pace.now.turns (g.K.Link.caught_up c.args.link.now) (g.K.Link.caught_up c.follow-outcome.new.link)
+    (Rose (g.K.Link.faults c.args.link.now) (g.K.Link.faults c.follow-outcome.new.link)) (DiskRose (g.J.Disk.faults old.journal.disk) (g.J.Disk.faults mid.journal.disk)) (DiskRose (g.O.Disk.faults old.output) (g.O.Disk.faults mid.output)) mid P.next w c.follow-outcome.ensures.window c.settled.ensures.sound.order range
+    (g.K.Link.feed c.args.link.now w.stream) (g.K.Link.feed c.follow-outcome.new.link w.stream) honest H c.made_is_faithful.ensures c.follow-outcome.result token count (stalled_synced _ _ c.follow-outcome.result c.finish.result c.finish.ensures.outcome token count is) P.stops

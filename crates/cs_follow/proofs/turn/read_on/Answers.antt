@@ -15,8 +15,12 @@ use Rattle.cs_follow.specs.Due.{at_rest}
 use Rattle.cs_follow.specs.Turn.{GoOn}
 use Rattle.cs_follow.proofs.Carrying.{left_carrying, stop_carries, batch_carries}
 use Rattle.cs_follow.proofs.Causes.{fault_turn}
+use Rattle.cs_follow.proofs.GettingOn.{turn_gets_on}
 use Rattle.cs_follow.proofs.Held.{left_back}
+use Rattle.cs_follow.proofs.Moving.{turn_back}
 use Rattle.cs_follow.proofs.Putting.{held_fits, held_within, held_work}
+use Rattle.cs_follow.proofs.Reading.{read_once, due_reads}
+use Rattle.cs_follow.proofs.AtRest.{fresh_ordered}
 use Rattle.cs_follow.proofs.TurnOver.{told_apart, quiet_goes, fault_over, fault_does, batch_over}
 use Rattle.cs_follow.proofs.Work.{lease_end}
 use Rattle.cs_follow.proofs.turn.read_on.Goals as goal
@@ -84,3 +88,25 @@ pub returns-in-Err-clause-carried : goal.returns-in-Err-clause-carried
 returns-in-Err-clause-carried g c = λ f es E C.
     stop_carries g.J.Disk.seen g.O.Disk.seen f c.args.book.now.board.window c.release.new.self es c.outcome_of-outcome.result (told_apart c.args.lease.args.token c.in-Err.fault c.outcome_of-outcome.result c.outcome_of-outcome.ensures)
     (left_carrying g.J.Disk.seen g.O.Disk.seen f c.args.book.now.board.window c.args.book.now.journal.gate c.release.new.self es (c.release.ensures.entries es E) (ap (λ j. j.gate) c.release.ensures.disks.0) C.following C.fits)
+
+pub returns-in-Ok-clause-reads : goal.returns-in-Ok-clause-reads
+returns-in-Ok-clause-reads g c = due_reads (g.K.Link.reads c.args.link.now) (g.K.Link.reads c.fetch.new.link) c.args.book.now.board.window (map fresh c.args.book.now.board.rows) c.args.lease (fresh_ordered c.args.book.now.board.rows c.settled.ensures.ordered) c.requires.held.due (read_once (g.K.Link.reads c.args.link.now) (g.K.Link.reads c.fetch.new.link) c.args.lease.args (λ args. args ≡ c.args.lease.args) c.fetch.result refl c.fetch.ensures.reads)
+
+pub returns-in-Err-clause-reads : goal.returns-in-Err-clause-reads
+returns-in-Err-clause-reads g c = due_reads (g.K.Link.reads c.args.link.now) (g.K.Link.reads c.fetch.new.link) c.args.book.now.board.window (map fresh c.args.book.now.board.rows) c.args.lease (fresh_ordered c.args.book.now.board.rows c.settled.ensures.ordered) c.requires.held.due (read_once (g.K.Link.reads c.args.link.now) (g.K.Link.reads c.fetch.new.link) c.args.lease.args (λ args. args ≡ c.args.lease.args) c.fetch.result refl c.fetch.ensures.reads)
+
+pub returns-in-Ok-clause-stays : goal.returns-in-Ok-clause-stays
+returns-in-Ok-clause-stays g c =
+    let low : IsStamp c.args.book.now.board.window.start = subst IsStamp (c.us-start.ensures.value ∙ ap (λ (v : Window). v.start) c.window.ensures ∙ ap (λ (b : Shown). b.window.start) c.board.ensures) c.us-start.ensures.range in
+    let well = c.in-Ok.ensures.well_formed (held_within g.J.Disk.seen g.O.Disk.seen c.args.book.now c.args.lease low.0 c.settled.ensures.sound c.requires.held) in
+    turn_back c.args.book.now.board c.settled.ensures.ordered c.args.lease c.requires.held.due c.in-Ok.batch well.token c.settle.new.book.board.rows c.settle.result c.settle.ensures.moves
+
+pub returns-in-Ok-clause-gets_on : goal.returns-in-Ok-clause-gets_on
+returns-in-Ok-clause-gets_on g c = λ moment count f es F tells H E A early fewest G.
+    let low : IsStamp c.args.book.now.board.window.start = subst IsStamp (c.us-start.ensures.value ∙ ap (λ (v : Window). v.start) c.window.ensures ∙ ap (λ (b : Shown). b.window.start) c.board.ensures) c.us-start.ensures.range in
+    let w = c.args.book.now.board.window in
+    let ends = lease_end w (map fresh c.args.book.now.board.rows) c.args.lease c.requires.held.due in
+    let well = c.in-Ok.ensures.well_formed (held_within g.J.Disk.seen g.O.Disk.seen c.args.book.now c.args.lease low.0 c.settled.ensures.sound c.requires.held) in
+    let honest : IsHonestFor c.args.lease.args.stream (g.K.Link.feed c.args.link.now c.args.lease.args.stream) (g.K.Link.present c.args.link.now) = subst (λ (z : List ℕ). IsHonestFor z (g.K.Link.feed c.args.link.now z) (g.K.Link.present c.args.link.now)) (sym ends.2) H in
+    let told : g.K.Link.feed c.args.link.now c.args.lease.args.stream ≡ Some f = subst (λ (z : List ℕ). g.K.Link.feed c.args.link.now z ≡ Some f) (sym ends.2) tells in
+    turn_gets_on c.args.book.now.board c.args.lease c.settled.ensures.ordered c.requires.held.due es E.rows f F A c.in-Ok.batch well (c.in-Ok.ensures.honest honest f told) moment (g.K.Link.moment c.args.link.now) count early (c.in-Ok.ensures.reaches honest) fewest G c.settle.result c.settle.new.book.board.rows c.settle.ensures.moves

@@ -1,9 +1,12 @@
-use Rattle.std.proofs.Common.{◌∙◌, true, false, sym, subst, ap}
+use Rattle.std.proofs.Common.{◌≡◌, ◌∙◌, true, false, sym, subst, ap}
 use Rattle.cs_types.specs.declared.names.Window.{Window}
 use Rattle.cs_types.specs.Stamp.{IsStamp}
 use Rattle.cs_device.specs.Causes.{Rose as DiskRose}
 use Rattle.cs_device.specs.Crash.{CrashesLeave}
 use Rattle.cs_schedule.specs.Board.{Shown}
+use Rattle.cs_schedule.specs.Update.{applied}
+use Rattle.cs_book.specs.Book.{rows_back}
+use Rattle.cs_book.specs.Planned.{is_caught_up}
 use Rattle.std.specs.Prelude.{IfSome}
 use Rattle.cs_follow.specs.Due.{at_rest}
 use Rattle.cs_follow.specs.Turn.{HoldsOldOrPlanned}
@@ -57,3 +60,27 @@ pub returns-clause-settles : goal.returns-clause-settles
 returns-clause-settles g c = λ es E.
     let low : IsStamp c.args.book.now.board.window.start = subst IsStamp (c.us-start.ensures.value ∙ ap (λ (v : Window). v.start) c.window.ensures ∙ ap (λ (b : Shown). b.window.start) c.board.ensures) c.us-start.ensures.range in
     put_is g.J.Disk.seen g.O.Disk.seen c.args.book.now c.args.lease low.0 c.settled.ensures.sound c.requires.held c.leases_are_no_entries.ensures.fresh c.settled.ensures.ordered c.commit.new.self c.args.batch.now c.in-Ok.plan.plan c.in-Ok.ensures.plan.next c.in-Ok.ensures.exact false es c.requires.well c.requires.grows E (c.in-Ok-commit.ensures.entries es E) c.in-Ok-commit.ensures.running c.commit.ensures.window c.in-Ok.plan.caught_up c.in-Ok-commit.ensures.rows c.commit.ensures.is_opening c.settled-2.ensures.sound c.settled-2.ensures.ordered (sym c.has_caught_up.ensures ∙ c.if-has_caught_up.false) c.in-Ok-commit.ensures.gate
+
+pub returns-then-has_caught_up-clause-moves : goal.returns-then-has_caught_up-clause-moves
+returns-then-has_caught_up-clause-moves g c =
+    let ending : is_caught_up c.args.batch.now.ending ≡ true = sym c.has_caught_up.ensures ∙ c.if-has_caught_up.true in
+    let back : c.in-Ok.plan.caught_up ≡ true = c.in-Ok.ensures.caught_up ∙ ending in
+    let o = c.in-Ok.plan.plan.entry in
+    record {
+      planned = o;
+      plans = c.in-Ok.ensures.exact;
+      is = subst (λ caught_up. c.commit.new.self.board.rows ≡ rows_back c.args.lease.args.token caught_up (applied c.args.book.now.board.window.start c.args.book.now.board.rows o)) back c.in-Ok-commit.ensures.rows;
+      ending = ending;
+    }
+
+pub returns-clause-moves : goal.returns-clause-moves
+returns-clause-moves g c =
+    let ending : is_caught_up c.args.batch.now.ending ≡ false = sym c.has_caught_up.ensures ∙ c.if-has_caught_up.false in
+    let back : c.in-Ok.plan.caught_up ≡ false = c.in-Ok.ensures.caught_up ∙ ending in
+    let o = c.in-Ok.plan.plan.entry in
+    record {
+      planned = o;
+      plans = c.in-Ok.ensures.exact;
+      is = subst (λ caught_up. c.commit.new.self.board.rows ≡ rows_back c.args.lease.args.token caught_up (applied c.args.book.now.board.window.start c.args.book.now.board.rows o)) back c.in-Ok-commit.ensures.rows;
+      ending = ending;
+    }

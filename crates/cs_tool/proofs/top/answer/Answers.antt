@@ -1,11 +1,12 @@
 use Rattle.std.proofs.Common.{map, string_bytes, refl, subst, ◌≡◌}
 use Rattle.cs_tool.specs.Answers.{IsPastScript}
+use Rattle.cs_tool.specs.Complete.{CompletesRun}
 use Rattle.cs_tool.specs.Journal.{Files, files}
 use Rattle.cs_tool.specs.Run.{Replays, HasEnded, HasPassed, HasRefused, HasBadScript, IsAnswerOf, HasGoodScript, IsOfReplay}
 use Rattle.cs_tool.specs.Said.{status_said}
 use Rattle.cs_tool.specs.declared.status.Status.TheVariants as status
 use Rattle.cs_tool.proofs.Options.{replay_order, replay_turns, replay_records, replay_name}
-use Rattle.cs_tool.proofs.Replaying.{of_replay_past, check_is_other, show_is_other, on_replay, replay_next, replay_survives}
+use Rattle.cs_tool.proofs.Replaying.{of_replay_past, check_is_other, show_is_other, on_replay, replay_next, replay_survives, replay_completes}
 use Rattle.cs_tool.proofs.Shown.{on_command, shown_ended, shown_passed, shown_refused, shown_bad, shown_answers, shown_next}
 use Rattle.cs_tool.proofs.top.answer.Goals as goal
 
@@ -128,3 +129,26 @@ returns-in-Show-clause-script_next g c =
     let left = g.S.Source.left c.args.script.now in
     let old : Files = files (g.J.Disk.seen c.args.journal.now) (g.J.Disk.crash c.args.journal.now) (g.J.Disk.faults c.args.journal.now) (g.O.Disk.seen c.args.output.now) (g.O.Disk.crash c.args.output.now) (g.O.Disk.faults c.args.output.now) in
     λ past. on_command words c.in-Ok.command _ (HasGoodScript left) c.in-Ok.ensures.read c.in-Show.is (shown_next (g.S.Source.left c.args.script.now) (g.S.Source.faults c.args.script.now) (g.S.Source.faults c.show.new.script) c.in-Show.query c.in-Show.moment c.show.result c.show.ensures.said past)
+
+pub returns-in-Replay-clause-complete : goal.returns-in-Replay-clause-complete
+returns-in-Replay-clause-complete g c =
+    let words = map string_bytes c.args.words.now in
+    let left = g.S.Source.left c.args.script.now in
+    let old : Files = files (g.J.Disk.seen c.args.journal.now) (g.J.Disk.crash c.args.journal.now) (g.J.Disk.faults c.args.journal.now) (g.O.Disk.seen c.args.output.now) (g.O.Disk.crash c.args.output.now) (g.O.Disk.faults c.args.output.now) in
+    let new : Files = files (g.J.Disk.seen c.replay.new.journal) (g.J.Disk.crash c.replay.new.journal) (g.J.Disk.faults c.replay.new.journal) (g.O.Disk.seen c.replay.new.output) (g.O.Disk.crash c.replay.new.output) (g.O.Disk.faults c.replay.new.output) in
+    λ past. replay_completes words c.in-Ok.command left old new c.in-Ok.ensures.read c.in-Replay.is c.going.result.pace c.going.result.moment c.going.ensures.pace c.going.ensures.moment c.replay.result c.replay.ensures.complete past
+
+pub returns-in-Check-clause-complete : goal.returns-in-Check-clause-complete
+returns-in-Check-clause-complete g c =
+    let words = map string_bytes c.args.words.now in
+    let left = g.S.Source.left c.args.script.now in
+    let old : Files = files (g.J.Disk.seen c.args.journal.now) (g.J.Disk.crash c.args.journal.now) (g.J.Disk.faults c.args.journal.now) (g.O.Disk.seen c.args.output.now) (g.O.Disk.crash c.args.output.now) (g.O.Disk.faults c.args.output.now) in
+    let new : Files = files (g.J.Disk.seen c.args.journal.now) (g.J.Disk.crash c.args.journal.now) (g.J.Disk.faults c.args.journal.now) (g.O.Disk.seen c.check.new.output) (g.O.Disk.crash c.check.new.output) (g.O.Disk.faults c.check.new.output) in
+    λ past. on_command words c.in-Ok.command _ (CompletesRun left old new c.check.result) c.in-Ok.ensures.read c.in-Check.is tt
+
+pub returns-in-Show-clause-complete : goal.returns-in-Show-clause-complete
+returns-in-Show-clause-complete g c =
+    let words = map string_bytes c.args.words.now in
+    let left = g.S.Source.left c.args.script.now in
+    let old : Files = files (g.J.Disk.seen c.args.journal.now) (g.J.Disk.crash c.args.journal.now) (g.J.Disk.faults c.args.journal.now) (g.O.Disk.seen c.args.output.now) (g.O.Disk.crash c.args.output.now) (g.O.Disk.faults c.args.output.now) in
+    λ past. on_command words c.in-Ok.command _ (CompletesRun left old old (status_said c.show.result)) c.in-Ok.ensures.read c.in-Show.is tt

@@ -2,7 +2,7 @@ use Rattle.std.proofs.Common.{◌≡◌, ℕ, Err, IfSome, subst, sym}
 use Rattle.cs_journal.specs.Rows.{stored_of}
 use Rattle.cs_journal.specs.Crashes.{HasSamePayloads, KeepsAnOldImage}
 use Rattle.cs_journal.specs.State.{WhereTold}
-use Rattle.cs_book.proofs.Opened.{open_crash, open_fault, if_err, bad_refused, begun_more, writes_more, IsRead}
+use Rattle.cs_book.proofs.Opened.{open_crash, open_fault, if_err, bad_refused, begun_more, writes_more, read_not_broken, broken_stays, IsRead}
 use Rattle.cs_book.proofs.Payloads.{if_ok}
 use Rattle.cs_book.proofs.Still.{still_then, still_told}
 use Rattle.cs_book.proofs.book.Book.open.Goals as goal
@@ -28,6 +28,12 @@ returns-in-Ok-clause-stays g c =
     if_err _ _ c.open_over.result (λ e h. writes_more e.0 _ _
     (λ s. (subst (λ d. WhereTold HasSamePayloads seen (g.J.Disk.seen d)) (sym s.0) c.in-Ok.ensures.kept, subst (λ d. KeepsAnOldImage seen crash (g.J.Disk.crash d)) (sym s.0) c.in-Ok.ensures.any_moment, s.1)) h) c.open_over.ensures.stays
 
+pub returns-in-Ok-clause-untouched : goal.returns-in-Ok-clause-untouched
+returns-in-Ok-clause-untouched g c =
+    let seen = g.J.Disk.seen c.args.journal in
+    let read = subst (IsRead seen) (sym c.as_slice.ensures) c.in-Ok.ensures.payloads in
+    if_err _ _ c.open_over.result (λ e h. read_not_broken e.0 seen c.as_slice.result.now _ read) c.open_over.ensures.stays
+
 pub returns-in-Ok-clause-not_begun : goal.returns-in-Ok-clause-not_begun
 returns-in-Ok-clause-not_begun g c =
     let old = c.args.journal in
@@ -47,3 +53,8 @@ returns-in-Ok-clause-still g c =
     let seen = g.J.Disk.seen c.args.journal in
     let mid = g.J.Disk.seen c.in-Ok.journal.disk in
     if_ok _ _ c.open_over.result (λ b h. (still_then seen mid (g.J.Disk.seen b.journal.disk) (still_told HasSamePayloads seen mid c.in-Ok.ensures.kept) h.0, h.1)) c.open_over.ensures.still
+
+pub returns-in-Err-BadJournal-default-clause-untouched : goal.returns-in-Err-BadJournal-default-clause-untouched
+returns-in-Err-BadJournal-default-clause-untouched g c =
+    let is = c.in-Err-BadJournal-default.ensures.untouched c.in-Err-BadJournal-default.place c.in-Err-BadJournal-default.field-0-0-is in
+    broken_stays (g.J.Disk.seen c.args.journal) _ _ is
