@@ -1,0 +1,11 @@
+use Rattle.std.proofs.Common.{ap, sym, ◌∙◌, Some, None}
+use Rattle.cs_types.specs.Stamp.{stamp_reading}
+use Rattle.cs_http.specs.Line.{and_then, moment_front, moment_back}
+use Rattle.cs_http.proofs.Between.{between_is}
+use Rattle.cs_http.proofs.line.caught_up.Goals as goal
+
+pub returns-in-None : goal.returns-in-None
+returns-in-None c = sym (ap (and_then stamp_reading) (between_is moment_front moment_back c.args.line.now None c.in-None.ensures))
+
+pub returns-in-Some : goal.returns-in-Some
+returns-in-Some c = c.stamp_of.ensures ∙ sym (ap (and_then stamp_reading) (between_is moment_front moment_back c.args.line.now (Some c.in-Some.text.now) c.in-Some.ensures))

@@ -1,0 +1,9 @@
+pub mod Fields
+pub mod Line
+pub mod Request
+pub mod Reading
+pub mod Span
+pub mod Refusal
+pub mod RefusalLine
+pub mod Front
+pub mod Room

@@ -1,0 +1,7 @@
+mod Bodies
+mod Causes
+mod Many
+mod Pieces
+mod Requests
+mod Rightly
+mod Standing

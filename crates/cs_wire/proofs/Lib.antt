@@ -1,0 +1,13 @@
+pub mod Asking
+pub mod Ends
+pub mod Pieces
+pub mod Failing
+pub mod Cutting
+pub mod Ending
+pub mod Going
+pub mod Heads
+pub mod Opening
+pub mod Present
+pub mod Telling
+pub mod Headless
+pub mod Unfailing

@@ -1,0 +1,9 @@
+pub mod Steps
+pub mod Told
+pub mod Answers
+pub mod Opened
+pub mod Held
+pub mod Taken
+pub mod Counts
+pub mod Seen
+pub mod Present
